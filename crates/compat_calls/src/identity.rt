@@ -1,0 +1,61 @@
+//! The calls on the process itself.
+
+ghost use Rattle.layout_laws.specs.Abis.{rules};
+ghost use Rattle.served_calls.specs.Calls.{ServesAlways, served};
+ghost use Rattle.compat_calls.specs.Identity.{exit, getgid32, getpid, getrusage, getuid32};
+
+use abi_registers::Args;
+use kernel_values::Answer;
+use layout_laws::Compat;
+use native_kernel::{End, Kernel};
+use served_calls::store_shape;
+use time_layouts::Usage32;
+use user_memory::UserMemory;
+
+/// getpid()
+#[tactic(auto, unfolding(crate::specs::Identity::getpid))]
+pub fn getpid<A: Compat>(memory: &mut UserMemory, kernel: &mut Kernel, args: &Args) -> Answer<u32>
+    ensures { ServesAlways result memory.new kernel.new (served (getpid (rules A.KIND A.ALIGN64) args.now) memory.old kernel.old) }
+{
+    Ok(kernel.credentials().pid)
+}
+
+/// exit(code)
+#[tactic(auto, unfolding(crate::specs::Identity::exit))]
+pub fn exit<A: Compat>(memory: &mut UserMemory, kernel: &mut Kernel, args: &Args) -> Answer<u32>
+    ensures { ServesAlways result memory.new kernel.new (served (exit (rules A.KIND A.ALIGN64) args.now) memory.old kernel.old) }
+{
+    let code = (args.signed(0).cast_unsigned() % 256) as u8;
+    kernel.finish(End::Exit(code));
+    Ok(0)
+}
+
+/// getuid32()
+#[tactic(auto, unfolding(crate::specs::Identity::getuid32))]
+pub fn getuid32<A: Compat>(memory: &mut UserMemory, kernel: &mut Kernel, args: &Args) -> Answer<u32>
+    ensures { ServesAlways result memory.new kernel.new (served (getuid32 (rules A.KIND A.ALIGN64) args.now) memory.old kernel.old) }
+{
+    Ok(kernel.credentials().uid)
+}
+
+/// getgid32()
+#[tactic(auto, unfolding(crate::specs::Identity::getgid32))]
+pub fn getgid32<A: Compat>(memory: &mut UserMemory, kernel: &mut Kernel, args: &Args) -> Answer<u32>
+    ensures { ServesAlways result memory.new kernel.new (served (getgid32 (rules A.KIND A.ALIGN64) args.now) memory.old kernel.old) }
+{
+    Ok(kernel.credentials().gid)
+}
+
+/// getrusage(who, usage)
+#[tactic(auto, unfolding(crate::specs::Identity::getrusage))]
+pub fn getrusage<A: Compat>(
+    memory: &mut UserMemory,
+    kernel: &mut Kernel,
+    args: &Args,
+) -> Answer<u32>
+    ensures { ServesAlways result memory.new kernel.new (served (getrusage (rules A.KIND A.ALIGN64) args.now) memory.old kernel.old) }
+{
+    let usage = kernel.usage(args.signed(0))?;
+    store_shape::<A, Usage32>(memory, args.word(1), &Usage32 { usage })?;
+    Ok(0)
+}

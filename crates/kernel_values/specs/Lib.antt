@@ -1,0 +1,4 @@
+pub mod Abi
+pub mod Errno
+pub mod Outcome
+pub mod Times

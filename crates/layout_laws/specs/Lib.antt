@@ -1,0 +1,6 @@
+pub mod Abis
+pub mod Columns
+pub mod Laws
+pub mod Rows
+pub mod Shapes
+pub mod Stored

@@ -1,0 +1,6 @@
+pub mod ClockState
+pub mod Clocks
+pub mod Limits
+pub mod Usages
+pub mod State
+pub mod Operations

@@ -1,0 +1,33 @@
+-- The limits and what each call does with them.
+use Rattle.std.specs.Prelude.{replicate, ◌^◌, ◌-◌, ℕ, Bool, not, ◌&&◌, ◌==◌, nat_lt, Result, Ok, ⊤, slice_get, slice_set, ok_or}
+use Rattle.kernel_values.specs.Outcome.{◌>>=◌, ◌>>◌, refused_if, settled}
+use Rattle.kernel_values.specs.declared.errno.Errno.{Errno}
+use Rattle.kernel_values.specs.declared.errno.Errno.TheVariants.{InvalidArgument, NotPermitted}
+use Rattle.kernel_values.specs.declared.times.Limit.{Limit}
+use Rattle.native_kernel.specs.declared.state.Limits.{Limits}
+
+-- resources are 0 to 15
+abbrev pub held_limit : Limits → ℕ → Result Limit Errno
+held_limit l resource = ok_or (slice_get l.held resource) InvalidArgument
+
+abbrev pub limit : Limits → ℕ → Result Limit Errno × Limits
+limit l resource = settled l (do
+  held ← held_limit l resource
+  Ok (held, l))
+
+-- no more than 2^20 descriptors, even with the privilege
+abbrev pub set_limit : Limits → Bool → ℕ → Limit → Result ⊤ Errno × Limits
+set_limit l privileged resource new = settled l (do
+  held ← held_limit l resource
+  refused_if (nat_lt new.hard new.soft) InvalidArgument
+  refused_if (nat_lt held.hard new.hard && not privileged) NotPermitted
+  refused_if (resource == 7 && nat_lt 0x100000 new.hard) NotPermitted
+  Ok (tt, record l { held = slice_set l.held resource new }))
+
+-- RLIM64_INFINITY twice
+abbrev pub infinity : Limit
+infinity = record { soft = 2 ^ 64 - 1; hard = 2 ^ 64 - 1 }
+
+-- all start at infinity but RLIMIT_NOFILE, 7
+unfoldable pub starting_limits : Limits
+starting_limits = record { held = slice_set (replicate 16 infinity) 7 (record { soft = 1024; hard = 4096 }) }

@@ -1,0 +1,51 @@
+//! Whose process it is, what it has used, and how it ended.
+
+ghost use Rattle.std.specs.Prelude.{◌≡◌};
+ghost use Rattle.kernel_values.specs.Outcome.{GivesAlways};
+ghost use Rattle.native_kernel.specs.Operations.{credentials, finish, usage};
+
+use crate::state::{End, Kernel};
+use kernel_values::{Answer, Credentials, Errno, KernelFault, Usage};
+
+impl Kernel {
+    /// The numbers of the process, its user and its group.
+    #[tactic(auto, unfolding(crate::specs::Operations::credentials))]
+    pub fn credentials(&self) -> Credentials
+        ensures { result ≡ credentials self.now }
+    {
+        let process = &self.process;
+        Credentials {
+            pid: process.pid,
+            uid: process.uid,
+            gid: process.gid,
+        }
+    }
+
+    /// What the process (0), its thread (1) or its children (-1), of which there are none, have used.
+    /// EINVAL for any other number.
+    #[tactic(auto, unfolding(crate::specs::Operations::usage))]
+    pub fn usage(&self, who: i64) -> Answer<Usage>
+        ensures { GivesAlways (λ u. u) result self.now (usage self.now who) }
+    {
+        match who {
+            0 | 1 => Ok(self.process.usage),
+            -1 => Ok(Usage { words: [0; 18] }),
+            _ => Err(KernelFault::Errno(Errno::InvalidArgument)),
+        }
+    }
+
+    /// How the process ended. None where it hasn't.
+    pub fn ended(&self) -> Option<End>
+        ensures { result ≡ self.now.ended }
+    {
+        self.ended
+    }
+
+    /// Ends the process.
+    #[tactic(auto, unfolding(crate::specs::Operations::finish))]
+    pub fn finish(&mut self, end: End)
+        ensures { self.new ≡ finish self.old end }
+    {
+        self.ended = Some(end);
+    }
+}

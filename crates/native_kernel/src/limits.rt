@@ -1,0 +1,45 @@
+//! The limits of a process.
+
+ghost use Rattle.std.specs.Prelude.{◌≡◌};
+ghost use Rattle.kernel_values.specs.Outcome.{GivesAlways};
+ghost use Rattle.native_kernel.specs.Limits.{limit, set_limit};
+
+use crate::state::Limits;
+use kernel_values::{Answer, Errno, KernelFault, Limit};
+
+/// `RLIMIT_NOFILE` of `include/uapi/asm-generic/resource.h`: how many descriptors there may be.
+pub const OPEN_FILES: u32 = 7;
+/// The greatest limit of descriptors.
+pub const MOST_OPEN_FILES: u64 = 0x10_0000;
+
+impl Limits {
+    /// The limit of a number. EINVAL for a number above 15.
+    pub fn limit(&self, resource: u32) -> Answer<Limit>
+        ensures { GivesAlways (λ l. l) result self.now (limit self.now resource) }
+    {
+        match self.held.get(resource as usize) {
+            Some(held) => Ok(*held),
+            None => Err(KernelFault::Errno(Errno::InvalidArgument)),
+        }
+    }
+
+    /// Sets a limit. EINVAL for a number above 15 and for a soft limit above the hard
+    /// one; then EPERM for a raised hard limit without the privilege, and for more
+    /// descriptors than any process may have.
+    pub fn set_limit(&mut self, privileged: bool, resource: u32, new: &Limit) -> Answer<()>
+        ensures { GivesAlways (λ _. tt) result self.new (set_limit self.old privileged resource new.now) }
+    {
+        let held = self.limit(resource)?;
+        if new.soft > new.hard {
+            return Err(KernelFault::Errno(Errno::InvalidArgument));
+        }
+        if new.hard > held.hard && !privileged {
+            return Err(KernelFault::Errno(Errno::NotPermitted));
+        }
+        if resource == OPEN_FILES && new.hard > MOST_OPEN_FILES {
+            return Err(KernelFault::Errno(Errno::NotPermitted));
+        }
+        self.held[resource as usize] = *new;
+        Ok(())
+    }
+}

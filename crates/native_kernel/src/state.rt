@@ -1,0 +1,83 @@
+//! The types of the state alone, so that the definitions may name them.
+
+ghost use Rattle.std.specs.Prelude.{◌<◌, ◌^◌};
+ghost use Rattle.native_kernel.specs.ClockState.{ClockState};
+
+use kernel_values::{Limit, TimeSpec, Usage};
+use std::marker::Model;
+
+/// What a new process and its kernel are made of.
+#[derive(Clone, Copy, Debug)]
+pub struct Identity {
+    pub pid: u32,
+    pub uid: u32,
+    pub gid: u32,
+    /// Whether it may set the clock and raise hard limits.
+    pub privileged: bool,
+    /// The real clock in nanoseconds, below 2^62.
+    pub real: u64,
+    /// The monotonic clock in nanoseconds, below 2^62.
+    pub monotonic: u64,
+    pub usage: Usage,
+}
+
+/// Whose process it is, and what it has used. No call changes it.
+#[derive(Clone, Copy, Debug)]
+pub struct Process {
+    pub pid: u32,
+    pub uid: u32,
+    pub gid: u32,
+    /// Whether it may set the clock and raise hard limits.
+    pub privileged: bool,
+    pub usage: Usage,
+}
+
+/// How a process ended.
+#[derive(Clone, Copy, Debug, PartialEq, Eq)]
+pub enum End {
+    /// By exit or exit_group, with the low 8 bits of their code.
+    Exit(u8),
+    /// By a signal with this number.
+    Signal(u32),
+}
+
+/// How a sleep ended.
+#[derive(Clone, Copy, Debug, PartialEq, Eq)]
+pub enum Slept {
+    /// After its whole time.
+    Whole,
+    /// Cut by a signal, with what was left of its time.
+    Cut { rest: TimeSpec },
+}
+
+/// The two clocks, in nanoseconds.
+#[derive(Debug, Drop)]
+pub struct Clocks {
+    pub(crate) real: u64,
+    pub(crate) monotonic: u64,
+}
+
+impl Model for Clocks {
+    ghost Value = { ClockState };
+
+    ghost view = { λ c. record { real = c.real; monotonic = c.monotonic } };
+
+    ghost invariant = { λ c. (c.real < 2 ^ 62) × (c.monotonic < 2 ^ 62) };
+}
+
+/// The sixteen limits of a process, by the numbers of `include/uapi/asm-generic/resource.h`.
+#[derive(Debug, Drop)]
+pub struct Limits {
+    /// The limit of each resource.
+    pub held: [Limit; 16],
+}
+
+/// The state of the modelled kernel, for one process.
+#[derive(Debug, Drop)]
+pub struct Kernel {
+    pub process: Process,
+    pub clocks: Clocks,
+    pub limits: Limits,
+    /// How the process ended, if it has.
+    pub ended: Option<End>,
+}

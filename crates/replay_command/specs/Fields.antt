@@ -1,0 +1,68 @@
+-- Lines as fields with one space between them, and numbers and bytes in hexadecimal digits.
+use Rattle.std.specs.Prelude.{ℕ, zero, suc, ℤ, pos, ◌+◌, ◌-◌, ◌*◌, ◌^◌, ◌==◌, ◌&&◌, nat_lt, nat_le, if◌then◌else◌, Bool, true, false, List, [], ◌∷◌, length, Option, Some, None}
+use Rattle.std.specs.Result.{result_ok}
+use Rattle.hex.specs.Hex.{decode_of}
+
+infixl 10 ◌>>=◌
+abbrev pub ◌>>=◌ : {A B : Type 0} → Option A → (A → Option B) → Option B
+None >>= f = None
+(Some x) >>= f = f x
+
+-- whether two lists are the same
+unfoldable pub same : List ℕ → List ℕ → Bool
+same [] [] = true
+same [] (y ∷ ys) = false
+same (x ∷ xs) [] = false
+same (x ∷ xs) (y ∷ ys) = (x == y) && same xs ys
+
+-- the field in front
+unfoldable pub first_field : List ℕ → List ℕ
+first_field [] = []
+first_field (b ∷ bs) = if b == 32 then [] else b ∷ first_field bs
+
+-- what follows the first space, where there is one
+unfoldable pub after_field : List ℕ → Option (List ℕ)
+after_field [] = None
+after_field (b ∷ bs) = if b == 32 then Some bs else after_field bs
+
+-- the value of a hexadecimal digit of either case
+abbrev pub digit : ℕ → Option ℕ
+digit c =
+    if nat_le 48 c && nat_lt c 58 then Some (c - 48)
+    else if nat_le 97 c && nat_lt c 103 then Some (c - 87)
+    else if nat_le 65 c && nat_lt c 71 then Some (c - 55)
+    else None
+
+-- the number that digits go on with
+unfoldable pub digits_from : ℕ → List ℕ → Option ℕ
+digits_from value [] = Some value
+digits_from value (c ∷ cs) = digit c >>= λ d. digits_from (value * 16 + d) cs
+
+-- a number of 1 to 16 digits
+abbrev pub number : List ℕ → Option ℕ
+number cs = if nat_lt 0 (length cs) && nat_le (length cs) 16 then digits_from 0 cs else None
+
+-- a number below a limit
+abbrev pub number_below : ℕ → List ℕ → Option ℕ
+number_below limit cs = number cs >>= λ n. if nat_lt n limit then Some n else None
+
+abbrev pub word : List ℕ → Option ℕ
+word cs = number_below (2 ^ 32) cs
+
+abbrev pub clock : List ℕ → Option ℕ
+clock cs = number_below (2 ^ 62) cs
+
+-- a number that a signed 64-bit integer holds
+abbrev pub count : List ℕ → Option ℤ
+count cs = number_below (2 ^ 63) cs >>= λ n. Some (pos n)
+
+-- n fields and no more
+unfoldable pub fields_in : {A : Type 0} → (List ℕ → Option A) → ℕ → Option (List ℕ) → Option (List A)
+fields_in read zero None = Some []
+fields_in read zero (Some rest) = None
+fields_in read (suc n) None = None
+fields_in read (suc n) (Some rest) = read (first_field rest) >>= λ x. fields_in read n (after_field rest) >>= λ xs. Some (x ∷ xs)
+
+-- pairs of digits, at least one, or a dash for none
+abbrev pub data_of : List ℕ → Option (List ℕ)
+data_of cs = if same cs (45 ∷ []) then Some [] else (if length cs == 0 then None else result_ok (decode_of cs))

@@ -1,0 +1,19 @@
+//! A script in, a report out: the command line's words, the whole run, and its status.
+#![tactic(auto)]
+
+mod command;
+mod fields;
+mod grammar;
+mod machine;
+mod report;
+mod run;
+mod status;
+mod stream;
+mod text;
+mod top;
+
+pub use status::Status;
+pub use top::replay;
+
+#[cfg(test)]
+mod tests;

@@ -1,0 +1,256 @@
+use super::*;
+use io_edge::{MemorySink, MemorySource, Words};
+use std::alloc::Global;
+use std::test::Fail;
+
+fn words(alloc: Global, all: &[&[u8]]) -> Option<Words> {
+    let mut words = Words::new(alloc);
+    for word in all {
+        words.push(word).ok()?;
+    }
+    Some(words)
+}
+
+/// Runs a script that comes in pieces of so many bytes.
+fn run_in_pieces(alloc: Global, script: &[u8], piece: usize) -> Option<(Status, MemorySink)> {
+    let run = words(alloc, &[b"run"])?;
+    let pieces = vec![in alloc; piece; script.len()].ok()?;
+    let script = Vec::from_slice(alloc, script).ok()?;
+    let mut source = MemorySource::new(script, pieces, Vec::new(alloc));
+    let mut sink = MemorySink::new(alloc, 4096, Vec::new(alloc)).ok()?;
+    let status = replay(alloc, &run, &mut source, &mut sink);
+    Some((status, sink))
+}
+
+fn run(alloc: Global, script: &[u8]) -> Option<(Status, MemorySink)> {
+    run_in_pieces(alloc, script, 4096)
+}
+
+const SCRIPT: &[u8] = b"abi ia32 1\npage fffff000 rw -\ncall 109 0 fffffffc 0 0 0 0 0 0 0\n";
+
+const REPORT: &[u8] =
+    b"call 1 clock_gettime fffffff2 00000000 fffffffc 00000000 00000000 00000000 00000000 00000000 00000000 00000000\nstate\nclock 0 0\npeak 0\nnode 2 d 0 41ed 0 0 0.0 0.0 0.0\nend\n";
+
+/// A timespec at the end of the address space isn't stored, however the script comes.
+#[test]
+fn pieces_of_a_script_change_nothing(rt: HostRuntime) -> Result<(), Fail> {
+    for piece in [1, 2, 3, 7] {
+        let (status, sink) = run_in_pieces(rt.alloc(), SCRIPT, piece).ok_or("memory")?;
+        assert_eq!(rt; sink.taken(), REPORT);
+        assert_eq!(rt; status, Status::Done);
+    }
+    Ok(())
+}
+
+#[test]
+fn a_failed_read_is_told(rt: HostRuntime) -> Result<(), Fail> {
+    let alloc = rt.alloc();
+    let words = words(alloc, &[b"run"]).ok_or("words")?;
+    let failing = vec![in alloc; 2]?;
+    let pieces = vec![in alloc; 20]?;
+    let mut source = MemorySource::new(Vec::from_slice(alloc, SCRIPT)?, pieces, failing);
+    let mut sink = MemorySink::new(alloc, 4096, Vec::new(alloc))
+        .ok()
+        .ok_or("sink")?;
+    let status = replay(alloc, &words, &mut source, &mut sink);
+    assert_eq!(rt; status, Status::ReadFault);
+    assert_eq!(rt; sink.taken(), b"".as_slice());
+    Ok(())
+}
+
+#[test]
+fn a_failed_write_is_told(rt: HostRuntime) -> Result<(), Fail> {
+    let alloc = rt.alloc();
+    let words = words(alloc, &[b"run"]).ok_or("words")?;
+    let script = Vec::from_slice(alloc, SCRIPT)?;
+    let mut source = MemorySource::new(script, Vec::new(alloc), Vec::new(alloc));
+    let failing = vec![in alloc; 1]?;
+    let mut sink = MemorySink::new(alloc, 4096, failing).ok().ok_or("sink")?;
+    let status = replay(alloc, &words, &mut source, &mut sink);
+    assert_eq!(rt; status, Status::WriteFault);
+    assert_eq!(rt; sink.taken(), b"".as_slice());
+    Ok(())
+}
+
+#[test]
+fn other_words_are_no_command(rt: HostRuntime) -> Result<(), Fail> {
+    let alloc = rt.alloc();
+    let others: [&[&[u8]]; 5] = [&[], &[b""], &[b"--help"], &[b"Run"], &[b"run", b"x"]];
+    for other in others {
+        let words = words(alloc, other).ok_or("words")?;
+        let script = Vec::from_slice(alloc, SCRIPT)?;
+        let mut source = MemorySource::new(script, Vec::new(alloc), Vec::new(alloc));
+        let mut sink = MemorySink::new(alloc, 4096, Vec::new(alloc))
+            .ok()
+            .ok_or("sink")?;
+        let status = replay(alloc, &words, &mut source, &mut sink);
+        assert_eq!(rt; status.code(), 1);
+        assert_eq!(rt; sink.taken(), b"".as_slice());
+    }
+    Ok(())
+}
+
+/// Scripts with a bad line: its number, and whether it is the header.
+#[test]
+fn bad_first_lines(rt: HostRuntime) -> Result<(), Fail> {
+    for script in [
+        b"".as_slice(),
+        b"abi ia32 1",
+        b"abi ia32 2\n",
+        b"\nabi arm 1\n",
+    ] {
+        let (status, sink) = run(rt.alloc(), script).ok_or("memory")?;
+        assert_eq!(rt; sink.taken(), b"bad 1 header\n".as_slice());
+        assert_eq!(rt; status, Status::BadLine);
+    }
+    Ok(())
+}
+
+#[test]
+fn bad_second_lines(rt: HostRuntime) -> Result<(), Fail> {
+    for script in [
+        b"abi ia32 1\n\n".as_slice(),
+        b"abi ia32 1\nclock 0 0",
+        b"abi ia32 1\nclock 00000000000000000 0\n",
+        b"abi ia32 1\nclock 4000000000000000 0\n",
+        b"abi ia32 1\npage fff r -\n",
+        b"abi ia32 1\npage 1001 r -\n",
+        b"abi ia32 1\ncall 109 0 0 0 0 0 0 0 0\n",
+        b"abi ia32 1\ncall 109 0 0 0 0 0 0 0 0 0 0\n",
+        b"abi ia32 1\nrestorer 100000000\n",
+        b"abi ia32 1\nadvance 4000000000000000\n",
+        b"abi ia32 1\npoke 5000 00\n",
+    ] {
+        let (status, sink) = run(rt.alloc(), script).ok_or("memory")?;
+        assert_eq!(rt; sink.taken(), b"bad 2 word\n".as_slice());
+        assert_eq!(rt; status, Status::BadLine);
+    }
+    Ok(())
+}
+
+#[test]
+fn bad_lines_of_a_process(rt: HostRuntime) -> Result<(), Fail> {
+    for script in [
+        b"abi arm 1\nwho 0 1 1 0\n".as_slice(),
+        b"abi arm 1\nwho 400000 1 1 0\n",
+        b"abi arm 1\nwho 1 1 1 01\n",
+        b"abi arm 1\nwho 1 1 1 0 0\n",
+        b"abi arm 1\nusage 0 0 0 0 0 0 0 0 0 0 0 0 0 0 0 0 0\n",
+        b"abi arm 1\nusage 0 0 0 0 0 0 0 0 0 0 0 0 0 0 0 0 0 0 0\n",
+        b"abi arm 1\nusage 0 0 0 0 0 0 0 0 0 0 0 0 0 0 0 0 0 8000000000000000\n",
+    ] {
+        let (status, sink) = run(rt.alloc(), script).ok_or("memory")?;
+        assert_eq!(rt; sink.taken(), b"bad 2 word\n".as_slice());
+        assert_eq!(rt; status, Status::BadLine);
+    }
+    Ok(())
+}
+
+#[test]
+fn lines_that_come_once_or_before_events(rt: HostRuntime) -> Result<(), Fail> {
+    for script in [
+        b"abi arm 1\nclock 0 0\nclock 0 0\n".as_slice(),
+        b"abi arm 1\nwho 1 1 1 0\nwho 1 1 1 0\n",
+        b"abi arm 1\nrestorer 0\nrestorer 0\n",
+        b"abi arm 1\npage 1000 r -\npage 1000 rw -\n",
+        b"abi arm 1\nadvance 0\nwho 1 1 1 0\n",
+        b"abi arm 1\nadvance 0\npage 1000 r -\n",
+        b"abi arm 1\npage fffff000 r -\npoke ffffffff 0000\n",
+    ] {
+        let (status, sink) = run(rt.alloc(), script).ok_or("memory")?;
+        assert_eq!(rt; sink.taken(), b"bad 3 word\n".as_slice());
+        assert_eq!(rt; status, Status::BadLine);
+    }
+    Ok(())
+}
+
+/// Two pages, and a poke of 8,187 bytes behind this beginning of its line.
+fn long_script(alloc: Global, poke: &[u8]) -> Option<Vec<u8>> {
+    let mut script = Vec::new(alloc);
+    script
+        .extend_from_slice(b"abi ia32 1\npage 1000 r -\npage 2000 r -\n")
+        .ok()?;
+    script.extend_from_slice(poke).ok()?;
+    for _ in 0..16_374 {
+        script.push(b'0').ok()?;
+    }
+    script.push(b'\n').ok()?;
+    Some(script)
+}
+
+#[test]
+fn lines_have_at_most_16384_bytes(rt: HostRuntime) -> Result<(), Fail> {
+    let alloc = rt.alloc();
+    let longest = long_script(alloc, b"poke 1000 ").ok_or("memory")?;
+    let (status, _) = run(alloc, &longest).ok_or("memory")?;
+    assert_eq!(rt; status, Status::Done);
+    let too_long = long_script(alloc, b"poke 01000 ").ok_or("memory")?;
+    let (status, sink) = run(alloc, &too_long).ok_or("memory")?;
+    assert_eq!(rt; sink.taken(), b"bad 4 word\n".as_slice());
+    assert_eq!(rt; status, Status::BadLine);
+    Ok(())
+}
+
+/// Both clocks move and stop at their last value. A poke of no bytes is good at any address.
+#[test]
+fn clocks_stop_at_their_end(rt: HostRuntime) -> Result<(), Fail> {
+    let script =
+        b"abi ia32 1\nclock 3fffffffffffffff 0000000000000005\nrestorer ffffffff\npoke 5000 -\nadvance 1\nadvance 3fffffffffffffff\n";
+    let (status, sink) = run(rt.alloc(), script).ok_or("memory")?;
+    let report =
+        b"state\nclock 3fffffffffffffff 3fffffffffffffff\npeak 0\nnode 2 d 0 41ed 0 0 0.0 0.0 0.0\nend\n";
+    assert_eq!(rt; sink.taken(), report.as_slice());
+    assert_eq!(rt; status, Status::Done);
+    Ok(())
+}
+
+/// A process that has ended serves no call. Time passes, and bytes are poked.
+#[test]
+fn an_ended_process_is_gone(rt: HostRuntime) -> Result<(), Fail> {
+    let script =
+        b"abi ia32 1\npage 1000 r -\ncall 1 7 0 0 0 0 0 0 0 0\ncall 14 0 0 0 0 0 0 0 0 0\nadvance a\npoke 1000 ff\n";
+    let (status, sink) = run(rt.alloc(), script).ok_or("memory")?;
+    let report =
+        b"call 1 exit 00000001 00000007 00000000 00000000 00000000 00000000 00000000 00000000 00000000 00000000\nexit 7\ncall 2 gone\nstate\nclock a a\nended exit 7\npeak 0\nnode 2 d 0 41ed 0 0 0.0 0.0 0.0\nend\n";
+    assert_eq!(rt; sink.taken(), report.as_slice());
+    assert_eq!(rt; status, Status::Done);
+    Ok(())
+}
+
+#[test]
+fn changed_limits_are_told(rt: HostRuntime) -> Result<(), Fail> {
+    let script =
+        b"abi ia32 1\npage 1000 r 050000000600000003000000ffffffff\ncall 4b 7 1000 0 0 0 0 0 0 0\ncall 4b 2 1008 0 0 0 0 0 0 0\n";
+    let (status, sink) = run(rt.alloc(), script).ok_or("memory")?;
+    let report =
+        b"call 1 setrlimit 00000000 00000007 00001000 00000000 00000000 00000000 00000000 00000000 00000000 00000000\ncall 2 setrlimit 00000000 00000002 00001008 00000000 00000000 00000000 00000000 00000000 00000000 00000000\nstate\nclock 0 0\npeak 0\nlimit 2 3 ffffffffffffffff\nlimit 7 5 6\nnode 2 d 0 41ed 0 0 0.0 0.0 0.0\nend\n";
+    assert_eq!(rt; sink.taken(), report.as_slice());
+    assert_eq!(rt; status, Status::Done);
+    Ok(())
+}
+
+/// getpid of an Arm process.
+#[test]
+fn an_arm_process_has_its_number(rt: HostRuntime) -> Result<(), Fail> {
+    let script = b"abi arm 1\nwho 3fffff 6 7 0\ncall 0 1 2 3 4 5 6 14 8 9 a b c d e f 10\n";
+    let (status, sink) = run(rt.alloc(), script).ok_or("memory")?;
+    let report =
+        b"call 1 getpid 003fffff 00000001 00000002 00000003 00000004 00000005 00000006 00000014 00000008 00000009 0000000a 0000000b 0000000c 0000000d 0000000e 0000000f 00000010\nstate\nclock 0 0\npeak 0\nnode 2 d 0 41ed 0 0 0.0 0.0 0.0\nend\n";
+    assert_eq!(rt; sink.taken(), report.as_slice());
+    assert_eq!(rt; status, Status::Done);
+    Ok(())
+}
+
+/// The first and the last number of a usage, and a clock that the privilege lets set to five seconds. Image lines follow
+/// a poke.
+#[test]
+fn usage_and_privilege_are_kept(rt: HostRuntime) -> Result<(), Fail> {
+    let script =
+        b"abi ia32 1\npage 1000 rw -\npoke 1100 05\nusage 1 0 0 0 0 0 0 0 0 0 0 0 0 0 0 0 0 12\nwho 1 0 0 1\ncall 4d 0 1000 0 0 0 0 0 0 0\ncall 108 0 1100 0 0 0 0 0 0 0\n";
+    let (status, sink) = run(rt.alloc(), script).ok_or("memory")?;
+    let report =
+        b"call 1 getrusage 00000000 00000000 00001000 00000000 00000000 00000000 00000000 00000000 00000000 00000000\nmem 00001000 01\nmem 00001044 12\ncall 2 clock_settime 00000000 00000000 00001100 00000000 00000000 00000000 00000000 00000000 00000000 00000000\nstate\nclock 12a05f200 0\npeak 0\nnode 2 d 0 41ed 0 0 0.0 0.0 0.0\nend\n";
+    assert_eq!(rt; sink.taken(), report.as_slice());
+    assert_eq!(rt; status, Status::Done);
+    Ok(())
+}

@@ -1,0 +1,9 @@
+pub mod NextChange
+pub mod Places
+pub mod Ranges
+pub mod Clears
+pub mod Runs
+pub mod Kept
+pub mod Calls
+pub mod Stores
+pub mod StoredPlaces

@@ -1,0 +1,17 @@
+//! User memory of a 32-bit process: pages with rights, stores whole or not at all, and the bytes
+//! that changed.
+#![tactic(auto)]
+
+mod change;
+mod memory;
+mod page;
+mod pages;
+mod rights;
+mod search;
+
+pub use change::Change;
+pub use memory::{Fault, MapFault, UserMemory};
+pub use rights::Rights;
+
+#[cfg(test)]
+mod tests;
