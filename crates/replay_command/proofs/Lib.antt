@@ -1,6 +1,5 @@
-pub mod FieldSteps
 pub mod TextSteps
-pub mod ReadSteps
-pub mod RunSteps
 pub mod StreamSteps
+pub mod ScriptSteps
+pub mod RunSteps
 pub mod TopSteps

@@ -1,9 +1,6 @@
-pub mod Fields
 pub mod Text
-pub mod Grammar
 pub mod Machine
 pub mod Run
-pub mod Wrote
-pub mod Piece
 pub mod Answers
+pub mod Wrote
 pub mod Codes

@@ -70,8 +70,12 @@ state_head = line (codes "state") ++ codes "clock "
 unfoldable pub peak_line : List ℕ
 peak_line = line (codes "peak 0")
 
-unfoldable pub state_tail : List ℕ
-state_tail = line (codes "node 2 d 0 41ed 0 0 0.0 0.0 0.0") ++ line (codes "end")
+unfoldable pub root_line : List ℕ
+root_line = line (codes "node 2 d 0 41ed 0 0 0.0 0.0 0.0")
+
+-- the last line of the report of a whole script
+unfoldable pub end_line : List ℕ
+end_line = line (codes "end")
 
 abbrev pub same_limit : Limit → Limit → Bool
 same_limit held start = (held.soft == start.soft) && (held.hard == start.hard)
@@ -94,10 +98,14 @@ limits_text limits = limits_from 0 limits.held starting_limits.held
 abbrev pub clocks_text : ClockState → List ℕ
 clocks_text clocks = state_head ++ hex_text clocks.real ++ codes " " ++ hex_text clocks.monotonic ++ 10 ∷ []
 
--- the state, and the end of the report
+-- the state
 abbrev pub state_text : Kernel → List ℕ
-state_text k = clocks_text k.clocks ++ ended_text k.ended ++ peak_line ++ limits_text k.limits ++ state_tail
+state_text k = clocks_text k.clocks ++ ended_text k.ended ++ peak_line ++ limits_text k.limits ++ root_line
 
 -- the line that tells a bad line
 abbrev pub bad_text : ℕ → List ℕ → List ℕ
 bad_text line cause = codes "bad " ++ decimal line ++ codes " " ++ cause ++ 10 ∷ []
+
+-- the line that tells how many records a script has, with its header
+abbrev pub ok_text : ℕ → List ℕ
+ok_text records = codes "ok " ++ hex_text records ++ 10 ∷ []

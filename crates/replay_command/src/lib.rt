@@ -1,13 +1,13 @@
 //! A script in, a report out: the command line's words, the whole run, and its status.
 #![tactic(auto)]
 
+mod check;
 mod command;
-mod fields;
-mod grammar;
 mod machine;
 mod report;
 mod run;
 mod status;
+mod stop;
 mod stream;
 mod text;
 mod top;

@@ -1,13 +1,13 @@
-//! The machine that a script runs on: each line changes it and may write.
+//! The machine that a script runs on: each record changes it and may write.
 
-ghost use Rattle.std.specs.Prelude.{◌≡◌, ◌+◌, ◌^◌, ◌<◌, ◌≤◌, ◌++◌, ◌%◌, length, IfOk, OnOk, None};
+ghost use Rattle.std.specs.Prelude.{◌≡◌, ◌+◌, ◌^◌, ◌<◌, ◌≤◌, ◌%◌, length, IfOk, OnOk};
 
-use crate::grammar::{Record, abi_in, record_in};
-use crate::report::{put_call, put_changes, put_end, put_gone};
+use crate::report::{put_call, put_changes, put_end, put_gone, put_state};
 use abi_registers::Registers;
 use compat_calls::{World, trap_by_kind};
-use kernel_values::{AbiKind, Credentials, OutOfMemory, Usage};
+use kernel_values::{Credentials, OutOfMemory, Usage};
 use native_kernel::{Identity, Process};
+use script_reader::Record;
 use std::alloc::Global;
 use user_memory::{MapFault, Rights};
 
@@ -22,39 +22,16 @@ const OWNER: Identity = Identity {
     usage: Usage { words: [0; 18] },
 };
 
-/// Why a line is bad.
-#[derive(Clone, Copy, Debug, PartialEq, Eq)]
-pub enum LineCause {
-    /// The first line isn't a header.
-    Header,
-    /// Any other bad line.
-    Word,
-}
-
-/// Which lines of the image came that may come only once.
-#[derive(Clone, Copy, Debug)]
-pub struct Given {
-    pub clock: bool,
-    pub who: bool,
-    pub usage: bool,
-    pub restorer: bool,
-}
-
-/// Where a run stands: how many lines it read, the ABI that the header named, what of the image was given, whether an
-/// event came, how many calls there were, and the process with its kernel.
+/// The process with its kernel, and how many calls there were.
 #[derive(Drop)]
 pub struct Machine {
-    pub lines: u64,
-    pub abi: Option<AbiKind>,
-    pub given: Given,
-    pub begun: bool,
     pub calls: u64,
     pub world: World,
 }
 
 impl Machine {
-    ghost use Rattle.replay_command.specs.Grammar.{line_of, IsInRange};
-    ghost use Rattle.replay_command.specs.Machine.{start, call, header, poke, advance, set_clock, set_who, set_usage, set_restorer, set_page, apply, after_line, Did};
+    ghost use Rattle.script_reader.specs.Grammar.{line_of, IsInRange};
+    ghost use Rattle.replay_command.specs.Machine.{start, call, silent, poke, advance, set_clock, set_who, set_usage, set_restorer, set_page, applied, Did};
 
     /// At the start of a script.
     #[tactic(auto, unfolding(crate::specs::Machine::start))]
@@ -62,46 +39,27 @@ impl Machine {
         ensures { IfOk result (λ m. m ≡ start) }
     {
         Ok(Machine {
-            lines: 0,
-            abi: None,
-            given: Given {
-                clock: false,
-                who: false,
-                usage: false,
-                restorer: false,
-            },
-            begun: false,
             calls: 0,
             world: World::new(alloc, &OWNER, 0)?,
         })
     }
 
-    /// The clocks, once and before the first event.
     #[tactic(auto, unfolding(crate::specs::Machine::set_clock))]
-    fn set_clock(&mut self, real: u64, monotonic: u64) -> Option<LineCause>
+    fn set_clock(&mut self, real: u64, monotonic: u64)
         requires real { real < 2 ^ 62 }
         requires monotonic { monotonic < 2 ^ 62 }
-        ensures done { (out : _) → Did (set_clock self.old real monotonic) result self.new out out }
-        ensures counts { (self.new.lines ≡ self.old.lines) × (self.new.calls ≡ self.old.calls) }
+        ensures machine { self.new ≡ set_clock self.old real monotonic }
+        ensures calls { self.new.calls ≡ self.old.calls }
     {
-        if self.begun || self.given.clock {
-            return Some(LineCause::Word);
-        }
-        self.given.clock = true;
         self.world.kernel.start_clocks(real, monotonic);
-        None
     }
 
-    /// Whose process it is, once and before the first event. What it has used stays.
+    /// Whose process it is. What it has used stays.
     #[tactic(auto, unfolding(crate::specs::Machine::set_who))]
-    fn set_who(&mut self, owner: &Credentials, privileged: bool) -> Option<LineCause>
-        ensures done { (out : _) → Did (set_who self.old owner.now privileged) result self.new out out }
-        ensures counts { (self.new.lines ≡ self.old.lines) × (self.new.calls ≡ self.old.calls) }
+    fn set_who(&mut self, owner: &Credentials, privileged: bool)
+        ensures machine { self.new ≡ set_who self.old owner.now privileged }
+        ensures calls { self.new.calls ≡ self.old.calls }
     {
-        if self.begun || self.given.who {
-            return Some(LineCause::Word);
-        }
-        self.given.who = true;
         let process = Process {
             pid: owner.pid,
             uid: owner.uid,
@@ -110,55 +68,36 @@ impl Machine {
             usage: self.world.kernel.process.usage,
         };
         self.world.kernel.start_process(&process);
-        None
     }
 
-    /// What the process has used, once and before the first event. Whose it is stays.
+    /// What the process has used. Whose it is stays.
     #[tactic(auto, unfolding(crate::specs::Machine::set_usage))]
-    fn set_usage(&mut self, usage: &Usage) -> Option<LineCause>
-        ensures done { (out : _) → Did (set_usage self.old usage.now) result self.new out out }
-        ensures counts { (self.new.lines ≡ self.old.lines) × (self.new.calls ≡ self.old.calls) }
+    fn set_usage(&mut self, usage: &Usage)
+        ensures machine { self.new ≡ set_usage self.old usage.now }
+        ensures calls { self.new.calls ≡ self.old.calls }
     {
-        if self.begun || self.given.usage {
-            return Some(LineCause::Word);
-        }
-        self.given.usage = true;
         let mut process = self.world.kernel.process;
         process.usage = *usage;
         self.world.kernel.start_process(&process);
-        None
     }
 
-    /// The return address of signal handlers, once and before the first event.
+    /// The return address of signal handlers.
     #[tactic(auto, unfolding(crate::specs::Machine::set_restorer))]
-    fn set_restorer(&mut self, address: u32) -> Option<LineCause>
-        ensures done { (out : _) → Did (set_restorer self.old address) result self.new out out }
-        ensures counts { (self.new.lines ≡ self.old.lines) × (self.new.calls ≡ self.old.calls) }
+    fn set_restorer(&mut self, address: u32)
+        ensures machine { self.new ≡ set_restorer self.old address }
+        ensures calls { self.new.calls ≡ self.old.calls }
     {
-        if self.begun || self.given.restorer {
-            return Some(LineCause::Word);
-        }
-        self.given.restorer = true;
         self.world.restorer = address;
-        None
     }
 
-    /// A page with its first bytes, where none is yet and before the first event.
+    /// A page with its first bytes, where none is yet and there is room for it.
     #[tactic(auto, unfolding(crate::specs::Machine::set_page))]
-    fn set_page(
-        &mut self,
-        at: u32,
-        writable: bool,
-        bytes: &[u8],
-    ) -> Result<Option<LineCause>, OutOfMemory>
+    fn set_page(&mut self, at: u32, writable: bool, bytes: &[u8]) -> Result<(), OutOfMemory>
         requires whole { at % 4096 ≡ 0 }
         requires short { length bytes.now ≤ 4096 }
-        ensures done { (out : _) → IfOk result (λ r. Did (set_page self.old at writable bytes.now) r self.new out out) }
-        ensures counts { (self.new.lines ≡ self.old.lines) × (self.new.calls ≡ self.old.calls) }
+        ensures page { OnOk result (self.new ≡ set_page self.old at writable bytes.now) }
+        ensures calls { self.new.calls ≡ self.old.calls }
     {
-        if self.begun {
-            return Ok(Some(LineCause::Word));
-        }
         let rights = if writable {
             Rights::ReadWrite
         } else {
@@ -167,12 +106,21 @@ impl Machine {
         match self.world.memory.map_page(at / 4096, rights) {
             Ok(()) => {}
             Err(MapFault::OutOfMemory) => return Err(OutOfMemory),
-            Err(_) => return Ok(Some(LineCause::Word)),
+            Err(_) => return Ok(()),
         }
         match self.world.memory.poke(at, bytes) {
-            Ok(()) => Ok(None),
+            Ok(()) => Ok(()),
             Err(_) => unreachable!(),
         }
+    }
+
+    /// Bytes in mapped pages, whatever their rights.
+    #[tactic(auto, unfolding(crate::specs::Machine::poke))]
+    fn poke(&mut self, at: u32, bytes: &[u8])
+        ensures machine { self.new ≡ poke self.old at bytes.now }
+        ensures calls { self.new.calls ≡ self.old.calls }
+    {
+        let _is_mapped = self.world.memory.poke(at, bytes).is_ok();
     }
 
     /// One call. A process that has ended serves none.
@@ -184,10 +132,9 @@ impl Machine {
         registers: &Registers,
     ) -> Result<(), OutOfMemory>
         requires { self.old.calls < 2 ^ 63 }
-        ensures done { OnOk result (Did (call self.old registers.now) None self.new out.old.items out.new.items) }
-        ensures counts { (self.new.lines ≡ self.old.lines) × (self.new.calls ≡ self.old.calls + 1) }
+        ensures done { OnOk result (Did (call self.old registers.now) self.new out.old.items out.new.items) }
+        ensures calls { self.new.calls ≡ self.old.calls + 1 }
     {
-        self.begun = true;
         self.calls += 1;
         if self.world.kernel.ended().is_some() {
             return put_gone(alloc, out, self.calls);
@@ -202,92 +149,40 @@ impl Machine {
     /// Both clocks move, also after the end of the process.
     #[tactic(auto, unfolding(crate::specs::Machine::advance))]
     fn advance(&mut self, nanos: u64)
-        ensures done { (out : _) → Did (advance self.old nanos) None self.new out out }
-        ensures counts { (self.new.lines ≡ self.old.lines) × (self.new.calls ≡ self.old.calls) }
+        ensures machine { self.new ≡ advance self.old nanos }
+        ensures calls { self.new.calls ≡ self.old.calls }
     {
-        self.begun = true;
         self.world.kernel.advance(nanos);
     }
 
-    /// Bytes in mapped pages, whatever their rights.
-    #[tactic(auto, unfolding(crate::specs::Machine::poke))]
-    fn poke(&mut self, at: u32, bytes: &[u8]) -> Option<LineCause>
-        ensures done { (out : _) → Did (poke self.old at bytes.now) result self.new out out }
-        ensures counts { (self.new.lines ≡ self.old.lines) × (self.new.calls ≡ self.old.calls) }
-    {
-        match self.world.memory.poke(at, bytes) {
-            Ok(()) => None,
-            Err(_) => Some(LineCause::Word),
-        }
-    }
-
     /// What a record does.
-    fn apply(
+    pub fn apply(
         &mut self,
         alloc: Global,
         out: &mut Vec<u8>,
         entry: Record,
-    ) -> Result<Option<LineCause>, OutOfMemory>
+    ) -> Result<(), OutOfMemory>
         requires calls { self.old.calls < 2 ^ 63 }
         requires page { IsInRange (line_of entry) }
-        ensures done { IfOk result (λ r. Did (apply self.old (line_of entry)) r self.new out.old.items out.new.items) }
-        ensures counts { (self.new.lines ≡ self.old.lines) × (self.new.calls ≤ self.old.calls + 1) }
+        ensures done { OnOk result (Did (applied self.old (line_of entry)) self.new out.old.items out.new.items) }
+        ensures calls { self.new.calls ≤ self.old.calls + 1 }
     {
         match entry {
-            Record::Clock { real, monotonic } => Ok(self.set_clock(real, monotonic)),
-            Record::Who { owner, privileged } => Ok(self.set_who(&owner, privileged)),
-            Record::Usage { usage } => Ok(self.set_usage(&usage)),
-            Record::Restorer { address } => Ok(self.set_restorer(address)),
+            Record::Header { .. } => {}
+            Record::Clock { real, monotonic } => self.set_clock(real, monotonic),
+            Record::Who { owner, privileged } => self.set_who(&owner, privileged),
+            Record::Usage { usage } => self.set_usage(&usage),
+            Record::Restorer { address } => self.set_restorer(address),
             Record::Page {
                 at,
                 writable,
                 bytes,
-            } => self.set_page(at, writable, &bytes),
-            Record::Poke { at, bytes } => Ok(self.poke(at, &bytes)),
-            Record::Call { registers } => {
-                self.call(alloc, out, &registers)?;
-                Ok(None)
-            }
-            Record::Advance { nanos } => {
-                self.advance(nanos);
-                Ok(None)
-            }
+            } => self.set_page(at, writable, &bytes)?,
+            Record::Poke { at, bytes } => self.poke(at, &bytes),
+            Record::Call { registers } => self.call(alloc, out, &registers)?,
+            Record::Advance { nanos } => self.advance(nanos),
+            Record::Show => put_state(alloc, out, &self.world.kernel)?,
         }
-    }
-
-    /// The header names the ABI.
-    fn header(&mut self, line: &[u8]) -> Option<LineCause>
-        ensures done { (out : _) → Did (header self.old line.now) result self.new out out }
-        ensures counts { (self.new.lines ≡ self.old.lines) × (self.new.calls ≡ self.old.calls) }
-    {
-        let Some(abi) = abi_in(line) else {
-            return Some(LineCause::Header);
-        };
-        self.abi = Some(abi);
-        None
-    }
-
-    /// A whole line.
-    #[tactic(auto, unfolding(crate::specs::Machine::after_line))]
-    pub fn line(
-        &mut self,
-        alloc: Global,
-        out: &mut Vec<u8>,
-        line: &[u8],
-    ) -> Result<Option<LineCause>, OutOfMemory>
-        requires lines { self.old.lines < 2 ^ 63 }
-        requires calls { self.old.calls < 2 ^ 63 }
-        ensures done { IfOk result (λ r. Did (after_line self.old line.now) r self.new out.old.items out.new.items) }
-        ensures lines { self.new.lines ≡ self.old.lines + 1 }
-        ensures calls { self.new.calls ≤ self.old.calls + 1 }
-    {
-        self.lines += 1;
-        let Some(abi) = self.abi else {
-            return Ok(self.header(line));
-        };
-        let Some(record) = record_in(alloc, abi, line)? else {
-            return Ok(Some(LineCause::Word));
-        };
-        self.apply(alloc, out, record)
+        Ok(())
     }
 }

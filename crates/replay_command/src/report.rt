@@ -6,7 +6,7 @@ ghost use Rattle.user_memory.specs.Changes.{changes};
 ghost use Rattle.abi_registers.specs.Places.{all_in, kind_in, number_in};
 ghost use Rattle.call_tables.specs.Rows.{row};
 ghost use Rattle.replay_command.specs.Machine.{row_name};
-ghost use Rattle.replay_command.specs.Text.{call_text, change_text, changes_text, end_number, end_text, end_word, ended_text, gone_text, hex_text, limit_text, limits_from, limits_text, clocks_text, peak_line, state_head, state_tail, state_text, bad_text};
+ghost use Rattle.replay_command.specs.Text.{call_text, change_text, changes_text, end_number, end_text, end_word, ended_text, gone_text, hex_text, limit_text, limits_from, limits_text, clocks_text, peak_line, root_line, end_line, state_head, state_text, bad_text, ok_text};
 
 use crate::text::{put, put_bytes, put_decimal, put_hex, put_word, put_words};
 use abi_registers::Registers;
@@ -153,11 +153,18 @@ fn peak_line() -> &'static [u8]
     b"peak 0\n"
 }
 
-#[tactic(auto, unfolding(crate::specs::Text::state_tail))]
-fn tail() -> &'static [u8]
-    ensures { result.now ≡ state_tail }
+#[tactic(auto, unfolding(crate::specs::Text::root_line))]
+fn root_line() -> &'static [u8]
+    ensures { result.now ≡ root_line }
 {
-    b"node 2 d 0 41ed 0 0 0.0 0.0 0.0\nend\n"
+    b"node 2 d 0 41ed 0 0 0.0 0.0 0.0\n"
+}
+
+#[tactic(auto, unfolding(crate::specs::Text::end_line))]
+fn end_line() -> &'static [u8]
+    ensures { result.now ≡ end_line }
+{
+    b"end\n"
 }
 
 /// The line of a limit, where it isn't as at the start.
@@ -218,7 +225,7 @@ fn put_clocks(alloc: Global, out: &mut Vec<u8>, clocks: &Clocks) -> Result<(), O
     put(out, b"\n")
 }
 
-/// The state, and the end of the report.
+/// The state.
 pub fn put_state(alloc: Global, out: &mut Vec<u8>, kernel: &Kernel) -> Result<(), OutOfMemory>
     ensures { OnOk result (out.new.items ≡ out.old.items ++ state_text kernel.now) }
 {
@@ -226,7 +233,22 @@ pub fn put_state(alloc: Global, out: &mut Vec<u8>, kernel: &Kernel) -> Result<()
     put_ended(alloc, out, kernel.ended())?;
     put(out, peak_line())?;
     put_changed_limits(alloc, out, &kernel.limits)?;
-    put(out, tail())
+    put(out, root_line())
+}
+
+/// The state, and the end of the report.
+pub fn put_whole(alloc: Global, out: &mut Vec<u8>, kernel: &Kernel) -> Result<(), OutOfMemory>
+    ensures { OnOk result (out.new.items ≡ out.old.items ++ (state_text kernel.now ++ end_line)) }
+{
+    put_state(alloc, out, kernel)?;
+    put(out, end_line())
+}
+
+/// The line of a script that is good.
+pub fn put_ok(alloc: Global, out: &mut Vec<u8>, records: u64) -> Result<(), OutOfMemory>
+    ensures { OnOk result (out.new.items ≡ out.old.items ++ ok_text records) }
+{
+    put_line(alloc, out, b"ok ", records)
 }
 
 /// The line that tells a bad line.

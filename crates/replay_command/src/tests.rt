@@ -1,6 +1,7 @@
 use super::*;
 use io_edge::{MemorySink, MemorySource, Words};
 use std::alloc::Global;
+use std::process::Abort;
 use std::test::Fail;
 
 fn words(alloc: Global, all: &[&[u8]]) -> Option<Words> {
@@ -11,19 +12,36 @@ fn words(alloc: Global, all: &[&[u8]]) -> Option<Words> {
     Some(words)
 }
 
-/// Runs a script that comes in pieces of so many bytes.
-fn run_in_pieces(alloc: Global, script: &[u8], piece: usize) -> Option<(Status, MemorySink)> {
-    let run = words(alloc, &[b"run"])?;
+/// A command over a script that comes in pieces of so many bytes.
+fn answer(
+    alloc: Global,
+    command: &[u8],
+    script: &[u8],
+    piece: usize,
+) -> Option<(Status, MemorySink)> {
+    let command = words(alloc, &[command])?;
     let pieces = vec![in alloc; piece; script.len()].ok()?;
     let script = Vec::from_slice(alloc, script).ok()?;
     let mut source = MemorySource::new(script, pieces, Vec::new(alloc));
     let mut sink = MemorySink::new(alloc, 4096, Vec::new(alloc)).ok()?;
-    let status = replay(alloc, &run, &mut source, &mut sink);
+    let status = replay(alloc, &command, &mut source, &mut sink);
     Some((status, sink))
 }
 
 fn run(alloc: Global, script: &[u8]) -> Option<(Status, MemorySink)> {
-    run_in_pieces(alloc, script, 4096)
+    answer(alloc, b"run", script, 4096)
+}
+
+/// Scripts with a bad line, of which `run` and `check` write the same.
+fn are_bad(rt: &impl Abort, alloc: Global, report: &[u8], scripts: &[&[u8]]) -> Result<(), Fail> {
+    for script in scripts {
+        for command in [b"run".as_slice(), b"check"] {
+            let (status, sink) = answer(alloc, command, script, 4096).ok_or("memory")?;
+            assert_eq!(rt; sink.taken(), report);
+            assert_eq!(rt; status, Status::BadLine);
+        }
+    }
+    Ok(())
 }
 
 const SCRIPT: &[u8] = b"abi ia32 1\npage fffff000 rw -\ncall 109 0 fffffffc 0 0 0 0 0 0 0\n";
@@ -35,7 +53,7 @@ const REPORT: &[u8] =
 #[test]
 fn pieces_of_a_script_change_nothing(rt: HostRuntime) -> Result<(), Fail> {
     for piece in [1, 2, 3, 7] {
-        let (status, sink) = run_in_pieces(rt.alloc(), SCRIPT, piece).ok_or("memory")?;
+        let (status, sink) = answer(rt.alloc(), b"run", SCRIPT, piece).ok_or("memory")?;
         assert_eq!(rt; sink.taken(), REPORT);
         assert_eq!(rt; status, Status::Done);
     }
@@ -45,37 +63,48 @@ fn pieces_of_a_script_change_nothing(rt: HostRuntime) -> Result<(), Fail> {
 #[test]
 fn a_failed_read_is_told(rt: HostRuntime) -> Result<(), Fail> {
     let alloc = rt.alloc();
-    let words = words(alloc, &[b"run"]).ok_or("words")?;
-    let failing = vec![in alloc; 2]?;
-    let pieces = vec![in alloc; 20]?;
-    let mut source = MemorySource::new(Vec::from_slice(alloc, SCRIPT)?, pieces, failing);
-    let mut sink = MemorySink::new(alloc, 4096, Vec::new(alloc))
-        .ok()
-        .ok_or("sink")?;
-    let status = replay(alloc, &words, &mut source, &mut sink);
-    assert_eq!(rt; status, Status::ReadFault);
-    assert_eq!(rt; sink.taken(), b"".as_slice());
+    for command in [b"run".as_slice(), b"check"] {
+        let words = words(alloc, &[command]).ok_or("words")?;
+        let failing = vec![in alloc; 2]?;
+        let pieces = vec![in alloc; 20]?;
+        let mut source = MemorySource::new(Vec::from_slice(alloc, SCRIPT)?, pieces, failing);
+        let mut sink = MemorySink::new(alloc, 4096, Vec::new(alloc))
+            .ok()
+            .ok_or("sink")?;
+        let status = replay(alloc, &words, &mut source, &mut sink);
+        assert_eq!(rt; status, Status::ReadFault);
+        assert_eq!(rt; sink.taken(), b"".as_slice());
+    }
     Ok(())
 }
 
 #[test]
 fn a_failed_write_is_told(rt: HostRuntime) -> Result<(), Fail> {
     let alloc = rt.alloc();
-    let words = words(alloc, &[b"run"]).ok_or("words")?;
-    let script = Vec::from_slice(alloc, SCRIPT)?;
-    let mut source = MemorySource::new(script, Vec::new(alloc), Vec::new(alloc));
-    let failing = vec![in alloc; 1]?;
-    let mut sink = MemorySink::new(alloc, 4096, failing).ok().ok_or("sink")?;
-    let status = replay(alloc, &words, &mut source, &mut sink);
-    assert_eq!(rt; status, Status::WriteFault);
-    assert_eq!(rt; sink.taken(), b"".as_slice());
+    for command in [b"run".as_slice(), b"check"] {
+        let words = words(alloc, &[command]).ok_or("words")?;
+        let script = Vec::from_slice(alloc, SCRIPT)?;
+        let mut source = MemorySource::new(script, Vec::new(alloc), Vec::new(alloc));
+        let failing = vec![in alloc; 1]?;
+        let mut sink = MemorySink::new(alloc, 4096, failing).ok().ok_or("sink")?;
+        let status = replay(alloc, &words, &mut source, &mut sink);
+        assert_eq!(rt; status, Status::WriteFault);
+        assert_eq!(rt; sink.taken(), b"".as_slice());
+    }
     Ok(())
 }
 
 #[test]
 fn other_words_are_no_command(rt: HostRuntime) -> Result<(), Fail> {
     let alloc = rt.alloc();
-    let others: [&[&[u8]]; 5] = [&[], &[b""], &[b"--help"], &[b"Run"], &[b"run", b"x"]];
+    let others: [&[&[u8]]; 6] = [
+        &[],
+        &[b""],
+        &[b"--help"],
+        &[b"Run"],
+        &[b"checks"],
+        &[b"check", b"run"],
+    ];
     for other in others {
         let words = words(alloc, other).ok_or("words")?;
         let script = Vec::from_slice(alloc, SCRIPT)?;
@@ -90,76 +119,84 @@ fn other_words_are_no_command(rt: HostRuntime) -> Result<(), Fail> {
     Ok(())
 }
 
-/// Scripts with a bad line: its number, and whether it is the header.
 #[test]
-fn bad_first_lines(rt: HostRuntime) -> Result<(), Fail> {
-    for script in [
-        b"".as_slice(),
-        b"abi ia32 1",
-        b"abi ia32 2\n",
-        b"\nabi arm 1\n",
-    ] {
-        let (status, sink) = run(rt.alloc(), script).ok_or("memory")?;
-        assert_eq!(rt; sink.taken(), b"bad 1 header\n".as_slice());
-        assert_eq!(rt; status, Status::BadLine);
-    }
-    Ok(())
+fn the_first_line_is_a_header(rt: HostRuntime) -> Result<(), Fail> {
+    let first = [b"".as_slice(), b"abi ia32 2\n", b"clock 0 0\n"];
+    are_bad(&rt, rt.alloc(), b"bad 1 header\n", &first)?;
+    let second = [b"\nabi mips 1\n".as_slice(), b"#\n"];
+    are_bad(&rt, rt.alloc(), b"bad 2 header\n", &second)
 }
 
+/// Empty lines and comments are passed over and counted.
 #[test]
-fn bad_second_lines(rt: HostRuntime) -> Result<(), Fail> {
-    for script in [
-        b"abi ia32 1\n\n".as_slice(),
-        b"abi ia32 1\nclock 0 0",
-        b"abi ia32 1\nclock 00000000000000000 0\n",
-        b"abi ia32 1\nclock 4000000000000000 0\n",
-        b"abi ia32 1\npage fff r -\n",
-        b"abi ia32 1\npage 1001 r -\n",
-        b"abi ia32 1\ncall 109 0 0 0 0 0 0 0 0\n",
+fn each_cause_is_told(rt: HostRuntime) -> Result<(), Fail> {
+    let alloc = rt.alloc();
+    let words = [
+        b"abi ia32 1\n\n# x\nfoo\n".as_slice(),
+        b"abi ia32 1\n\n# x\nabi ia32 1\n",
+    ];
+    are_bad(&rt, alloc, b"bad 4 word\n", &words)?;
+    let unended = [b"abi ia32 1\nclock 0 0".as_slice(), b"abi arm 1\n#"];
+    are_bad(&rt, alloc, b"bad 2 unended\n", &unended)?;
+    let counts = [
+        b"abi ia32 1\nclock 0\n".as_slice(),
         b"abi ia32 1\ncall 109 0 0 0 0 0 0 0 0 0 0\n",
-        b"abi ia32 1\nrestorer 100000000\n",
-        b"abi ia32 1\nadvance 4000000000000000\n",
-        b"abi ia32 1\npoke 5000 00\n",
-    ] {
-        let (status, sink) = run(rt.alloc(), script).ok_or("memory")?;
-        assert_eq!(rt; sink.taken(), b"bad 2 word\n".as_slice());
-        assert_eq!(rt; status, Status::BadLine);
-    }
-    Ok(())
-}
-
-#[test]
-fn bad_lines_of_a_process(rt: HostRuntime) -> Result<(), Fail> {
-    for script in [
-        b"abi arm 1\nwho 0 1 1 0\n".as_slice(),
-        b"abi arm 1\nwho 400000 1 1 0\n",
-        b"abi arm 1\nwho 1 1 1 01\n",
         b"abi arm 1\nwho 1 1 1 0 0\n",
-        b"abi arm 1\nusage 0 0 0 0 0 0 0 0 0 0 0 0 0 0 0 0 0\n",
-        b"abi arm 1\nusage 0 0 0 0 0 0 0 0 0 0 0 0 0 0 0 0 0 0 0\n",
-        b"abi arm 1\nusage 0 0 0 0 0 0 0 0 0 0 0 0 0 0 0 0 0 8000000000000000\n",
-    ] {
-        let (status, sink) = run(rt.alloc(), script).ok_or("memory")?;
-        assert_eq!(rt; sink.taken(), b"bad 2 word\n".as_slice());
-        assert_eq!(rt; status, Status::BadLine);
-    }
+        b"abi arm 1\nshow \n",
+    ];
+    are_bad(&rt, alloc, b"bad 2 count\n", &counts)?;
+    let fields = [
+        b"abi ia32 1\nclock 4000000000000000 0\n".as_slice(),
+        b"abi ia32 1\npage 1001 r -\n",
+        b"abi ia32 1\nrestorer 100000000\n",
+        b"abi arm 1\nwho 1 1 1 01\n",
+    ];
+    are_bad(&rt, alloc, b"bad 2 field\n", &fields)?;
+    let orders = [
+        b"abi arm 1\nadvance 0\nwho 1 1 1 0\n".as_slice(),
+        b"abi arm 1\nadvance 0\npage 1000 r -\n",
+    ];
+    are_bad(&rt, alloc, b"bad 3 order\n", &orders)?;
+    let images = [
+        b"abi arm 1\nclock 0 0\nclock 0 0\n".as_slice(),
+        b"abi arm 1\npage 1000 r -\npage 1000 rw -\n",
+        b"abi arm 1\npage fffff000 r -\npoke ffffffff 0000\n",
+    ];
+    are_bad(&rt, alloc, b"bad 3 image\n", &images)
+}
+
+/// What the records before a bad line write stands before it.
+#[test]
+fn a_bad_line_ends_the_report(rt: HostRuntime) -> Result<(), Fail> {
+    let script = b"abi ia32 1\ncall ffff 0 0 0 0 0 0 0 0 0\nclock 0 0\nfoo\n";
+    let (status, sink) = run(rt.alloc(), script).ok_or("memory")?;
+    let report =
+        b"call 1 unknown ffffffda 00000000 00000000 00000000 00000000 00000000 00000000 00000000 00000000 00000000\nbad 3 order\n";
+    assert_eq!(rt; sink.taken(), report.as_slice());
+    assert_eq!(rt; status, Status::BadLine);
     Ok(())
 }
 
+/// The state as it is then, without the last line of a report.
 #[test]
-fn lines_that_come_once_or_before_events(rt: HostRuntime) -> Result<(), Fail> {
-    for script in [
-        b"abi arm 1\nclock 0 0\nclock 0 0\n".as_slice(),
-        b"abi arm 1\nwho 1 1 1 0\nwho 1 1 1 0\n",
-        b"abi arm 1\nrestorer 0\nrestorer 0\n",
-        b"abi arm 1\npage 1000 r -\npage 1000 rw -\n",
-        b"abi arm 1\nadvance 0\nwho 1 1 1 0\n",
-        b"abi arm 1\nadvance 0\npage 1000 r -\n",
-        b"abi arm 1\npage fffff000 r -\npoke ffffffff 0000\n",
-    ] {
-        let (status, sink) = run(rt.alloc(), script).ok_or("memory")?;
-        assert_eq!(rt; sink.taken(), b"bad 3 word\n".as_slice());
-        assert_eq!(rt; status, Status::BadLine);
+fn the_state_is_shown(rt: HostRuntime) -> Result<(), Fail> {
+    let script = b"abi ia32 1\nshow\nadvance 1f\nshow\n";
+    let (status, sink) = run(rt.alloc(), script).ok_or("memory")?;
+    let report =
+        b"state\nclock 0 0\npeak 0\nnode 2 d 0 41ed 0 0 0.0 0.0 0.0\nstate\nclock 1f 1f\npeak 0\nnode 2 d 0 41ed 0 0 0.0 0.0 0.0\nstate\nclock 1f 1f\npeak 0\nnode 2 d 0 41ed 0 0 0.0 0.0 0.0\nend\n";
+    assert_eq!(rt; sink.taken(), report.as_slice());
+    assert_eq!(rt; status, Status::Done);
+    Ok(())
+}
+
+/// The header counts, and lines that are passed over don't.
+#[test]
+fn a_good_script_is_counted(rt: HostRuntime) -> Result<(), Fail> {
+    let script = b"\nabi ia32 1\n# x\npage 1000 rw -\nadvance 1\n\nshow\n";
+    for piece in [1, 4096] {
+        let (status, sink) = answer(rt.alloc(), b"check", script, piece).ok_or("memory")?;
+        assert_eq!(rt; sink.taken(), b"ok 4\n".as_slice());
+        assert_eq!(rt; status, Status::Done);
     }
     Ok(())
 }
@@ -186,7 +223,7 @@ fn lines_have_at_most_16384_bytes(rt: HostRuntime) -> Result<(), Fail> {
     assert_eq!(rt; status, Status::Done);
     let too_long = long_script(alloc, b"poke 01000 ").ok_or("memory")?;
     let (status, sink) = run(alloc, &too_long).ok_or("memory")?;
-    assert_eq!(rt; sink.taken(), b"bad 4 word\n".as_slice());
+    assert_eq!(rt; sink.taken(), b"bad 4 long\n".as_slice());
     assert_eq!(rt; status, Status::BadLine);
     Ok(())
 }

@@ -1,61 +1,48 @@
 //! The top call: the words of a command line, a source and a sink.
 
-ghost use Rattle.std.specs.Prelude.{◌≡◌, ◌⊎◌, ◌↔◌, ℕ, ◌+◌, ◌^◌, ◌≤◌, List, length, take, Option, Some, None, is_some, true, nat_lt};
+ghost use Rattle.std.specs.Prelude.{◌≡◌, ◌⊎◌, ◌↔◌, ℕ, List, take, Option, Some, None, is_some, true};
 ghost use Rattle.io_edge.specs.Told.{Rose, IsAtEnd, appended};
-ghost use Rattle.replay_command.specs.Run.{limit, output_of};
 ghost use Rattle.replay_command.specs.Answers.{command_of, answer_by, answer_to, IsEnd, IsInput, IsRead, Answers};
+ghost use Rattle.replay_command.specs.Wrote.{Ran};
 
+use crate::check::check;
 use crate::command::{Command, command_in};
 use crate::run::run;
 use crate::status::Status;
-use crate::stream::{LIMIT, Stop, read_all, write_all};
+use crate::stop::Stop;
+use crate::stream::write_all;
 use io_edge::{Sink, Source, Words};
 use std::alloc::Global;
 
-/// The input before the cut.
-fn front_of(input: &[u8]) -> &[u8]
-    ensures value { result.now ≡ take limit input.now }
-    ensures short { length result.now ≤ 2 ^ 28 }
+/// Makes the text of a command.
+fn answer<S: Source>(
+    alloc: Global,
+    command: Command,
+    source: &mut S,
+    out: &mut Vec<u8>,
+) -> Result<Status, Stop>
+    ensures { Ran (answer_by (Some command)) result (S.left source.old) (S.left source.new) (S.faults source.old) (S.faults source.new) out.old.items out.new.items }
 {
-    if input.len() > LIMIT {
-        return &input[..LIMIT];
+    match command {
+        Command::Run => run(alloc, source, out),
+        Command::Check => check(alloc, source, out),
     }
-    input
 }
 
-fn is_too_large(input: &[u8]) -> bool
-    ensures { result ≡ nat_lt limit (length input.now) }
+/// Writes the text of a command that ended so.
+fn tell<O: Sink>(sink: &mut O, text: &[u8], status: Status) -> Status
+    requires { IsEnd status }
+    ensures { Answers (record { text = text.now; status = status }) result (O.taken sink.old) (O.taken sink.new) (O.faults sink.old) (O.faults sink.new) }
 {
-    input.len() > LIMIT
-}
-
-/// Runs the input and writes the report.
-fn run_whole<O: Sink>(alloc: Global, input: &[u8], sink: &mut O) -> Status
-    ensures { Answers (output_of input.now) result (O.taken sink.old) (O.taken sink.new) (O.faults sink.old) (O.faults sink.new) }
-{
-    let mut text = Vec::new(alloc);
-    let front = front_of(input);
-    let cut = is_too_large(input);
-    let Ok(status) = run(alloc, front, cut, &mut text) else {
-        return Status::OutOfMemory;
-    };
-    match write_all(sink, &text) {
+    match write_all(sink, text) {
         Ok(()) => status,
         Err(_) => Status::WriteFault,
     }
 }
 
-/// Does what a command does with the bytes of a stream.
-fn respond<O: Sink>(alloc: Global, command: Command, input: &[u8], sink: &mut O) -> Status
-    ensures { Answers (answer_by (Some command) input.now) result (O.taken sink.old) (O.taken sink.new) (O.faults sink.old) (O.faults sink.new) }
-{
-    match command {
-        Command::Run => run_whole(alloc, input, sink),
-    }
-}
-
 /// The whole program: does what the words of the command line ask for, with the bytes of the source, writes to the sink,
-/// and answers how it ended. `run` reads a script, runs each line and writes the report.
+/// and answers how it ended. `run` reads a script, runs each record and writes the report. `check` reads one and writes
+/// whether it is good. The text is written once the script has ended.
 ///
 /// `BadWords` is answered before anything is read, written or allocated. `Done`, `BadLine` and `TooLarge` are answered only
 /// once all text was taken; after any other status the sink took a front of it.
@@ -75,8 +62,8 @@ pub fn replay<S: Source, O: Sink>(
         × (result ≡ (answer_to words.now bytes).status) × (O.taken sink.new ≡ appended (O.taken sink.old) (answer_to words.now bytes).text) }
     ensures counts { IsEnd result → (S.faults source.new ≡ S.faults source.old) × (O.faults sink.new ≡ O.faults sink.old) }
 
-    // All of the stream was read, or one byte more than the most. Where it is done, nothing is left.
-    ensures read { IsEnd result → (input : List ℕ) × IsRead (S.left source.old) (S.left source.new) input }
+    // What was read is a front of the stream. Where it is done, nothing is left.
+    ensures read { IsRead (S.left source.old) (S.left source.new) }
     ensures read_to_end { result ≡ Status.Done → IsAtEnd (S.left source.new) }
 
     // A fault is told only where its count rose.
@@ -94,8 +81,9 @@ pub fn replay<S: Source, O: Sink>(
     let Some(command) = command_in(words) else {
         return Status::BadWords;
     };
-    match read_all(alloc, source) {
-        Ok(input) => respond(alloc, command, &input, sink),
+    let mut text = Vec::new(alloc);
+    match answer(alloc, command, source, &mut text) {
+        Ok(status) => tell(sink, &text, status),
         Err(Stop::Fault) => Status::ReadFault,
         Err(Stop::Memory) => Status::OutOfMemory,
     }

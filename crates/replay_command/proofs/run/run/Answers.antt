@@ -1,70 +1,73 @@
-use Rattle.std.proofs.Common.{ap, ◌+◌, subst, length, arith, [], Some, None}
-use Rattle.std.specs.Prelude.{Option}
-use Rattle.std.specs.Result.{IfOk}
-use Rattle.replay_command.specs.declared.machine.Machine.{Machine}
-use Rattle.replay_command.specs.declared.machine.LineCause.{LineCause}
-use Rattle.replay_command.specs.Machine.{start, cut_cause, after_line, Did}
-use Rattle.replay_command.specs.Run.{behind, at_bad, at_end, run_from}
-use Rattle.replay_command.specs.Wrote.{Wrote}
-use Rattle.replay_command.proofs.RunSteps.{line_so_far, line_done, line_bad, line_long, line_goes_on, cut_ends, stream_ends, finish}
+use Rattle.std.proofs.Common.{ℕ, List, refl, subst, ◌∙◌, arith}
+use Rattle.std.specs.Prelude.{◌<◌, OnSome, Option, Ok}
+use Rattle.script_reader.specs.declared.record.Record.{Record}
+use Rattle.script_reader.specs.Grammar.{line_of}
+use Rattle.script_reader.specs.Ending.{Whole, ScriptText}
+use Rattle.script_reader.specs.Ending as endings
+use Rattle.script_reader.specs.Reads.{next_in}
+use Rattle.script_reader.specs.Reads as reads
+use Rattle.replay_command.specs.Machine.{start}
+use Rattle.replay_command.specs.Run.{behind, run_end, run_from, output_of}
+use Rattle.replay_command.proofs.ScriptSteps.{taken_none, taken_record}
+use Rattle.replay_command.proofs.RunSteps.{run_starts, run_goes, run_ends, ran_memory, ran_whole, ran_fault}
 use Rattle.replay_command.proofs.run.run.Goals as goal
 
-pub loop-i-init : goal.loop-i-init
+pub loop-record-init : goal.loop-record-init
 unfolding start
-loop-i-init c = record {
-  first = omega arith;
-  short = omega arith;
-  lines = rw c.in_ok-machine.ensures (omega arith);
+loop-record-init g c = record {
+  alive = rw c.in_ok-script.ensures refl;
   calls = rw c.in_ok-machine.ensures (omega arith);
-  so_far = ap (λ (m : Machine). behind c.args.out.now.items (run_from c.args.cut m [] c.args.input.now)) c.in_ok-machine.ensures;
+  reach = rw c.in_ok-script.ensures (omega arith);
+  faults = refl;
+  taken = taken_none (g.S.Source.left c.args.source.now) c.in_ok-script.script (λ (text : ScriptText). behind c.args.out.now.items (run_from c.in_ok-machine.machine text)) (λ (bytes : List ℕ). behind c.args.out.now.items (output_of bytes)) c.in_ok-script.ensures
+      (λ bytes. run_starts c.in_ok-machine.machine c.args.out.now.items bytes c.in_ok-machine.ensures);
 }
 
-pub returns-in-Some : goal.returns-in-Some
-returns-in-Some c =
-    let all = run_from c.args.cut start [] c.args.input.now in
-    let did : Did (after_line c.loop-i.machine (line_so_far c.args.input.now c.loop-i.first c.loop-i.i)) (Some c.in-Some.cause) c.line.new.self c.loop-i.out.items c.line.new.out.items =
-    subst (λ (o : Option LineCause). Did (after_line c.loop-i.machine (line_so_far c.args.input.now c.loop-i.first c.loop-i.i)) o c.line.new.self c.loop-i.out.items c.line.new.out.items) c.in-Some.is c.in_ok-cause.ensures.done in
-    finish c.end_badly.result (at_bad (c.loop-i.machine.lines + 1) c.in-Some.cause) all c.line.new.out.items c.args.out.now.items c.end_badly.new.out.items c.end_badly.ensures
-    (line_bad c.args.cut c.loop-i.machine c.line.new.self c.in-Some.cause c.args.input.now c.loop-i.out.items c.line.new.out.items c.loop-i.first c.loop-i.i 0 (behind c.args.out.now.items all) (omega arith) (omega arith) did c.loop-i.invariant.so_far)
+pub loop-record-smaller : goal.loop-record-smaller
+loop-record-smaller g c =
+    let goes = subst (λ (o : Option Record). OnSome o (c.loop-record.script.count < c.next_record.new.self.count)) c.in-Ok-Some.field-0-is c.in-Ok-Some.ensures.goes_on in
+    omega (arith, goes, c.in-Ok-Some.ensures.few)
 
-pub returns-then-i-first-eq-MAX_LINE : goal.returns-then-i-first-eq-MAX_LINE
-returns-then-i-first-eq-MAX_LINE c =
-    let all = run_from c.args.cut start [] c.args.input.now in
-    let cause = c.cause_at_cut.ensures in
-    finish c.end_badly-then-i-first-eq-MAX_LINE.result (at_bad (c.loop-i.machine.lines + 1) (cut_cause c.loop-i.machine)) all c.loop-i.out.items c.args.out.now.items c.end_badly-then-i-first-eq-MAX_LINE.new.out.items
-    (subst (λ (k : LineCause). IfOk c.end_badly-then-i-first-eq-MAX_LINE.result (λ s. Wrote (at_bad (c.loop-i.machine.lines + 1) k) s c.loop-i.out.items c.end_badly-then-i-first-eq-MAX_LINE.new.out.items)) cause c.end_badly-then-i-first-eq-MAX_LINE.ensures)
-    (line_long c.args.cut c.loop-i.machine c.args.input.now c.loop-i.out.items c.loop-i.first c.loop-i.i 0 (behind c.args.out.now.items all) (omega arith) (λ e. omega arith) (omega arith) (omega arith) c.loop-i.invariant.so_far)
-
-pub loop-i-preserved : goal.loop-i-preserved
-loop-i-preserved c =
-    let v = c.loop-i.invariant in
+pub loop-record-preserved : goal.loop-record-preserved
+loop-record-preserved g c =
+    let took = c.in-Ok-Some.ensures.took in
+    let told = subst (λ (o : Option Record). reads.Answers (next_in c.loop-record.script took.0) (g.S.Source.left c.next_record.new.source) (Ok o) c.next_record.new.self) c.in-Ok-Some.field-0-is took.2 in
+    let line = line_of c.in-Ok-Some.record in
+    let old = c.loop-record in
+    let r = c.next_record.new.self in
+    let goes = subst (λ (o : Option Record). OnSome o (c.loop-record.script.count < c.next_record.new.self.count)) c.in-Ok-Some.field-0-is c.in-Ok-Some.ensures.goes_on in
     record {
-      first = omega (arith, v.first);
-      short = omega (arith, v.short);
-      lines = omega (arith, v.lines);
-      calls = omega (arith, v.calls);
-      so_far = line_goes_on c.args.cut c.loop-i.machine c.args.input.now c.loop-i.out.items c.loop-i.first c.loop-i.i 0 (behind c.args.out.now.items (run_from c.args.cut start [] c.args.input.now)) (omega arith) (λ e. omega arith) (omega arith) (λ e. omega arith) v.so_far;
+      alive = told.2;
+      calls = omega (arith, goes, old.invariant.calls, c.in_ok-apply-in-Ok-Some.ensures.calls);
+      reach = c.in-Ok-Some.ensures.few;
+      faults = c.in-Ok-Some.ensures.counts ∙ old.invariant.faults;
+      taken = taken_record (g.S.Source.left c.args.source.now) (g.S.Source.left old.source) (g.S.Source.left c.next_record.new.source) old.script r line (λ (text : ScriptText). behind old.out.items (run_from old.machine text)) (λ (text : ScriptText). behind c.apply.new.out.items (run_from c.apply.new.self text)) (λ (bytes : List ℕ). behind c.args.out.now.items (output_of bytes)) took.0 old.invariant.taken took.1 told.0
+          (λ text. run_goes old.machine c.apply.new.self line old.out.items c.apply.new.out.items text c.in_ok-apply-in-Ok-Some.ensures.done);
     }
 
-pub loop-i-preserved-then-byte-eq10 : goal.loop-i-preserved-then-byte-eq10
-loop-i-preserved-then-byte-eq10 c =
-    let v = c.loop-i.invariant in
-    let did : Did (after_line c.loop-i.machine (line_so_far c.args.input.now c.loop-i.first c.loop-i.i)) None c.line.new.self c.loop-i.out.items c.line.new.out.items =
-    subst (λ (o : Option LineCause). Did (after_line c.loop-i.machine (line_so_far c.args.input.now c.loop-i.first c.loop-i.i)) o c.line.new.self c.loop-i.out.items c.line.new.out.items) c.in_default.is c.in_ok-cause.ensures.done in
-    record {
-      first = omega arith;
-      short = omega arith;
-      lines = omega (arith, v.lines, c.in_ok-cause.ensures.lines);
-      calls = omega (arith, v.calls, c.in_ok-cause.ensures.calls);
-      so_far = line_done c.args.cut c.loop-i.machine c.line.new.self c.args.input.now c.loop-i.out.items c.line.new.out.items c.loop-i.first c.loop-i.i 0 (behind c.args.out.now.items (run_from c.args.cut start [] c.args.input.now)) (omega arith) (omega arith) did v.so_far;
-    }
+pub returns-in_err-apply-in-Ok-Some : goal.returns-in_err-apply-in-Ok-Some
+returns-in_err-apply-in-Ok-Some g c =
+    let took = c.in-Ok-Some.ensures.took in
+    let old = c.loop-record in
+    ran_memory output_of c.from_residual-in_err-apply-in-Ok-Some.result (g.S.Source.left c.args.source.now) (g.S.Source.left old.source) (g.S.Source.left c.next_record.new.source) _ _ c.args.out.now.items c.apply.new.out.items old.script (λ (text : ScriptText). behind old.out.items (run_from old.machine text)) (λ (bytes : List ℕ). behind c.args.out.now.items (output_of bytes)) took.0 c.from_residual-in_err-apply-in-Ok-Some.ensures.1 old.invariant.taken took.1
 
-pub returns-then-cut : goal.returns-then-cut
-returns-then-cut c =
-    cut_ends c.loop-i.machine (line_so_far c.args.input.now c.loop-i.first c.loop-i.i) c.args.input.now c.loop-i.out.items c.args.out.now.items c.loop-i.i c.args.cut (run_from c.args.cut start [] c.args.input.now) (omega arith) c.if-cut.true c.loop-i.invariant.so_far
+pub returns-in_err-put_whole-in-Ok-None : goal.returns-in_err-put_whole-in-Ok-None
+returns-in_err-put_whole-in-Ok-None g c =
+    let took = c.in-Ok-None.ensures.took in
+    let old = c.loop-record in
+    ran_memory output_of c.from_residual-in_err-put_whole-in-Ok-None.result (g.S.Source.left c.args.source.now) (g.S.Source.left old.source) (g.S.Source.left c.next_record.new.source) _ _ c.args.out.now.items c.put_whole.new.out.items old.script (λ (text : ScriptText). behind old.out.items (run_from old.machine text)) (λ (bytes : List ℕ). behind c.args.out.now.items (output_of bytes)) took.0 c.from_residual-in_err-put_whole-in-Ok-None.ensures.1 old.invariant.taken took.1
 
-pub returns : goal.returns
-returns c =
-    let all = run_from c.args.cut start [] c.args.input.now in
-    finish c.end.result (at_end c.loop-i.machine (line_so_far c.args.input.now c.loop-i.first (length c.args.input.now))) all c.loop-i.out.items c.args.out.now.items c.end.new.out.items c.end.ensures
-    (stream_ends c.loop-i.machine c.args.input.now c.loop-i.out.items c.loop-i.first c.loop-i.i c.args.cut (behind c.args.out.now.items all) (omega arith) c.if-cut.false c.loop-i.invariant.so_far)
+pub returns-in-Ok-None : goal.returns-in-Ok-None
+returns-in-Ok-None g c =
+    let took = c.in-Ok-None.ensures.took in
+    let told = subst (λ (o : Option Record). reads.Answers (next_in c.loop-record.script took.0) (g.S.Source.left c.next_record.new.source) (Ok o) c.next_record.new.self) c.in-Ok-None.field-0-is took.2 in
+    let old = c.loop-record in
+    ran_whole output_of (run_end old.machine Whole) (g.S.Source.left c.args.source.now) (g.S.Source.left old.source) (g.S.Source.left c.next_record.new.source) (g.S.Source.faults c.args.source.now) (g.S.Source.faults c.next_record.new.source) c.args.out.now.items old.out.items c.put_whole.new.out.items old.script c.next_record.new.self (λ (text : ScriptText). behind old.out.items (run_from old.machine text)) took.0 old.invariant.taken took.1 told
+    (run_ends old.machine old.out.items Whole) (record { text = c.in_ok-put_whole-in-Ok-None.ensures; ended = refl }) (c.in-Ok-None.ensures.counts ∙ old.invariant.faults)
+
+pub returns-in-Err : goal.returns-in-Err
+returns-in-Err g c =
+    let took = c.in-Err.ensures.took in
+    let old = c.loop-record in
+    ran_fault output_of c.in-Err.fault c.end_at.result (g.S.Source.left c.args.source.now) (g.S.Source.left old.source) (g.S.Source.left c.next_record.new.source) (g.S.Source.faults c.args.source.now) (g.S.Source.faults old.source) (g.S.Source.faults c.next_record.new.source) c.args.out.now.items old.out.items c.end_at.new.out.items old.script c.next_record.new.self (λ (text : ScriptText). behind old.out.items (run_from old.machine text)) took.0 old.invariant.taken took.1 took.2
+    (λ number cause. run_ends old.machine old.out.items (endings.BadLine number cause)) (run_ends old.machine old.out.items endings.TooLarge) c.end_at.ensures old.invariant.faults c.in-Err.ensures.counts

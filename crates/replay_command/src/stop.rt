@@ -1,0 +1,61 @@
+//! How a command ends before its script does.
+
+ghost use Rattle.std.specs.Prelude.{◌≡◌, IfOk};
+ghost use Rattle.replay_command.specs.Run.{cause_text};
+ghost use Rattle.replay_command.specs.Wrote.{EndsAt};
+
+use crate::report::put_bad;
+use crate::status::Status;
+use kernel_values::OutOfMemory;
+use script_reader::{LineCause, ScriptFault};
+use std::alloc::Global;
+
+/// Why a command comes to no end of its own.
+#[derive(Clone, Copy, Debug, PartialEq, Eq)]
+pub enum Stop {
+    /// A read of the source failed.
+    Fault,
+    /// Memory ran out.
+    Memory,
+}
+
+impl From<OutOfMemory> for Stop {
+    ghost use Rattle.std.specs.Prelude.{◌≡◌};
+    ghost use Rattle.replay_command.specs.declared.stop.Stop.{Stop};
+
+    ghost from_gives = { λ _ e. e ≡ Stop.Memory };
+
+    fn from(_error: OutOfMemory) -> Stop {
+        Stop::Memory
+    }
+}
+
+fn cause_word(cause: LineCause) -> &'static [u8]
+    ensures { result.now ≡ cause_text cause }
+{
+    match cause {
+        LineCause::Long => b"long",
+        LineCause::Unended => b"unended",
+        LineCause::Header => b"header",
+        LineCause::Word => b"word",
+        LineCause::Count => b"count",
+        LineCause::Field => b"field",
+        LineCause::Order => b"order",
+        LineCause::Image => b"image",
+    }
+}
+
+/// Ends the text at a fault of the script.
+pub fn end_at(alloc: Global, out: &mut Vec<u8>, fault: ScriptFault) -> Result<Status, Stop>
+    ensures { EndsAt fault result out.old.items out.new.items }
+{
+    match fault {
+        ScriptFault::BadLine { line, cause } => {
+            put_bad(alloc, out, line, cause_word(cause))?;
+            Ok(Status::BadLine)
+        }
+        ScriptFault::TooLarge => Ok(Status::TooLarge),
+        ScriptFault::ReadFault => Err(Stop::Fault),
+        ScriptFault::OutOfMemory => Err(Stop::Memory),
+    }
+}

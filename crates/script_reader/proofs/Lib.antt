@@ -1,0 +1,6 @@
+pub mod FieldSteps
+pub mod LoopSteps
+pub mod Covered
+pub mod LineSteps
+pub mod ScriptLaws
+pub mod ReadSteps

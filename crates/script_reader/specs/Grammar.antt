@@ -1,0 +1,192 @@
+-- The lines of a script: the header, and what each other line says by itself.
+use Rattle.std.specs.Prelude.{◌≡◌, ◌<◌, ◌≤◌, ⊤, ℕ, ◌+◌, ◌%◌, ◌^◌, ◌==◌, ◌&&◌, nat_le, if◌then◌else◌, Bool, true, false, List, [], length, count_by, codes, Option, Some, None, Result, Ok, Err}
+use Rattle.std.specs.Option.{unwrap_or, ok_or}
+use Rattle.abi_registers.specs.declared.registers.Registers.{Registers}
+use Rattle.abi_registers.specs.declared.registers.Registers.TheVariants.{Ia32, Arm}
+use Rattle.kernel_values.specs.declared.abi.AbiKind.{AbiKind}
+use Rattle.kernel_values.specs.declared.abi.AbiKind.TheVariants as abi
+use Rattle.kernel_values.specs.declared.identity.Credentials.{Credentials}
+use Rattle.kernel_values.specs.declared.times.Usage as times
+use Rattle.script_reader.specs.declared.fault.LineCause.{LineCause}
+use Rattle.script_reader.specs.declared.fault.LineCause.TheVariants as causes
+use Rattle.script_reader.specs.declared.grammar.Keyword.{Keyword}
+use Rattle.script_reader.specs.declared.grammar.Keyword.TheVariants as keywords
+use Rattle.script_reader.specs.declared.record.Record.{Record}
+use Rattle.script_reader.specs.declared.record.Record.TheVariants as records
+use Rattle.script_reader.specs.Fields.{◌>>=◌, same, first_field, after_field, word, clock, count, fields_in, data_of}
+
+-- what a line says
+pub data Line : Type 0 where
+  Header : (abi : AbiKind) → Line
+  Clock : (real monotonic : ℕ) → Line
+  Who : (owner : Credentials) (privileged : Bool) → Line
+  Usage : (usage : times.Usage) → Line
+  Restorer : (address : ℕ) → Line
+  Page : (at : ℕ) (writable : Bool) (bytes : List ℕ) → Line
+  Poke : (at : ℕ) (bytes : List ℕ) → Line
+  Call : (registers : Registers) → Line
+  Advance : (nanos : ℕ) → Line
+  Show : Line
+
+-- a record without where its bytes lie in memory
+abbrev pub line_of : Record → Line
+line_of (records.Header abi) = Header abi
+line_of (records.Clock real monotonic) = Clock real monotonic
+line_of (records.Who owner privileged) = Who owner privileged
+line_of (records.Usage usage) = Usage usage
+line_of (records.Restorer address) = Restorer address
+line_of (records.Page at writable bytes) = Page at writable bytes.items
+line_of (records.Poke at bytes) = Poke at bytes.items
+line_of (records.Call registers) = Call registers
+line_of (records.Advance nanos) = Advance nanos
+line_of records.Show = Show
+
+-- two clocks
+unfoldable pub clock_line : List ℕ → Option Line
+clock_line rest =
+    after_field rest >>= λ second.
+    clock (first_field rest) >>= λ real.
+    clock second >>= λ monotonic.
+    Some (Clock real monotonic)
+
+-- the number of a process: at least 1, and below the greatest that Linux gives, 2^22
+abbrev pub pid_of : List ℕ → Option ℕ
+pid_of cs = word cs >>= λ pid. if nat_le 1 pid && nat_le pid 0x3fffff then Some pid else None
+
+-- a privilege is one digit
+abbrev pub privilege_of : List ℕ → Option Bool
+privilege_of cs = if same cs (codes "0") then Some false else (if same cs (codes "1") then Some true else None)
+
+-- a process, its user and its group, and the privilege
+unfoldable pub who_line : List ℕ → Option Line
+who_line rest =
+    after_field rest >>= λ second.
+    after_field second >>= λ third.
+    after_field third >>= λ fourth.
+    pid_of (first_field rest) >>= λ pid.
+    word (first_field second) >>= λ uid.
+    word (first_field third) >>= λ gid.
+    privilege_of fourth >>= λ privileged.
+    Some (Who (record { pid = pid; uid = uid; gid = gid }) privileged)
+
+-- the 18 numbers of a usage
+unfoldable pub usage_line : List ℕ → Option Line
+usage_line rest = fields_in count 18 (Some rest) >>= λ words. Some (Usage (record { words = words }))
+
+-- an address
+unfoldable pub restorer_line : List ℕ → Option Line
+restorer_line rest = word rest >>= λ address. Some (Restorer address)
+
+-- whether a page may be written
+abbrev pub rights_of : List ℕ → Option Bool
+rights_of cs = if same cs (codes "r") then Some false else (if same cs (codes "rw") then Some true else None)
+
+abbrev pub page_of : ℕ → Bool → List ℕ → Option Line
+page_of at writable bytes = if (at % 4096 == 0) && nat_le (length bytes) 4096 then Some (Page at writable bytes) else None
+
+-- an address, rights and bytes
+unfoldable pub page_line : List ℕ → Option Line
+page_line rest =
+    after_field rest >>= λ second.
+    after_field second >>= λ third.
+    word (first_field rest) >>= λ at.
+    rights_of (first_field second) >>= λ writable.
+    data_of third >>= λ bytes.
+    page_of at writable bytes
+
+-- an address and bytes
+unfoldable pub poke_line : List ℕ → Option Line
+poke_line rest =
+    after_field rest >>= λ second.
+    word (first_field rest) >>= λ at.
+    data_of second >>= λ bytes.
+    Some (Poke at bytes)
+
+-- all registers
+abbrev pub registers_in : AbiKind → List ℕ → Option Registers
+registers_in abi.Ia32 rest = fields_in word 10 (Some rest) >>= λ words. Some (Ia32 words)
+registers_in abi.ArmEabi rest = fields_in word 17 (Some rest) >>= λ words. Some (Arm words)
+
+unfoldable pub call_line : AbiKind → List ℕ → Option Line
+call_line kind rest = registers_in kind rest >>= λ registers. Some (Call registers)
+
+-- how long both clocks move
+unfoldable pub advance_line : List ℕ → Option Line
+advance_line rest = clock rest >>= λ nanos. Some (Advance nanos)
+
+-- the ABI that a header names
+unfoldable pub abi_of : List ℕ → Option AbiKind
+abi_of line = if same line (codes "abi ia32 1") then Some abi.Ia32 else (if same line (codes "abi arm 1") then Some abi.ArmEabi else None)
+
+-- what a line is about, by its first field
+unfoldable pub keyword_of : List ℕ → Option Keyword
+keyword_of name =
+    if same name (codes "call") then Some keywords.Call
+    else (if same name (codes "advance") then Some keywords.Advance
+    else (if same name (codes "poke") then Some keywords.Poke
+    else (if same name (codes "page") then Some keywords.Page
+    else (if same name (codes "clock") then Some keywords.Clock
+    else (if same name (codes "who") then Some keywords.Who
+    else (if same name (codes "usage") then Some keywords.Usage
+    else (if same name (codes "restorer") then Some keywords.Restorer
+    else (if same name (codes "show") then Some keywords.Show
+    else None))))))))
+
+-- how many fields a line has, its first one among them
+abbrev pub fields_of : AbiKind → Keyword → ℕ
+fields_of kind keywords.Clock = 3
+fields_of kind keywords.Who = 5
+fields_of kind keywords.Usage = 19
+fields_of kind keywords.Restorer = 2
+fields_of kind keywords.Page = 4
+fields_of kind keywords.Poke = 3
+fields_of abi.Ia32 keywords.Call = 11
+fields_of abi.ArmEabi keywords.Call = 18
+fields_of kind keywords.Advance = 2
+fields_of kind keywords.Show = 1
+
+-- fields have one space between them
+abbrev pub field_count : List ℕ → ℕ
+field_count line = count_by (λ b. b == 32) line + 1
+
+-- what a line says, from the fields behind its first one
+unfoldable pub line_about : AbiKind → Keyword → List ℕ → Option Line
+line_about kind keywords.Clock rest = clock_line rest
+line_about kind keywords.Who rest = who_line rest
+line_about kind keywords.Usage rest = usage_line rest
+line_about kind keywords.Restorer rest = restorer_line rest
+line_about kind keywords.Page rest = page_line rest
+line_about kind keywords.Poke rest = poke_line rest
+line_about kind keywords.Call rest = call_line kind rest
+line_about kind keywords.Advance rest = advance_line rest
+line_about kind keywords.Show rest = Some Show
+
+-- the fields are as many as the line has, and each is of its spelling and range
+abbrev pub read_about : AbiKind → Option Keyword → List ℕ → Result Line LineCause
+read_about kind None line = Err causes.Word
+read_about kind (Some keyword) line =
+    if field_count line == fields_of kind keyword
+    then ok_or (line_about kind keyword (unwrap_or (after_field line) [])) causes.Field
+    else Err causes.Count
+
+-- what a line other than the header says, or its first cause by itself
+unfoldable pub read_line : AbiKind → List ℕ → Result Line LineCause
+read_line kind line = read_about kind (keyword_of (first_field line)) line
+
+-- what was read, without where its bytes lie in memory
+abbrev pub said_by : Result Record LineCause → Result Line LineCause
+said_by (Ok r) = Ok (line_of r)
+said_by (Err cause) = Err cause
+
+-- clocks are below their end; a page stands at a multiple of its size, and has no more bytes
+abbrev pub IsInRange : Line → Type 0
+IsInRange (Header kind) = ⊤
+IsInRange (Clock real monotonic) = (real < 2 ^ 62) × (monotonic < 2 ^ 62)
+IsInRange (Who owner privileged) = ⊤
+IsInRange (Usage usage) = ⊤
+IsInRange (Restorer address) = ⊤
+IsInRange (Page at writable bytes) = (at % 4096 ≡ 0) × (length bytes ≤ 4096)
+IsInRange (Poke at bytes) = ⊤
+IsInRange (Call registers) = ⊤
+IsInRange (Advance nanos) = nanos < 2 ^ 62
+IsInRange Show = ⊤

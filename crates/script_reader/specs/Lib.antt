@@ -1,0 +1,7 @@
+pub mod Fields
+pub mod Grammar
+pub mod Seen
+pub mod Ending
+pub mod Script
+pub mod Ahead
+pub mod Reads

@@ -1,0 +1,169 @@
+//! Fields of a line, and numbers in hexadecimal digits.
+
+ghost use Rattle.std.specs.Prelude.{◌≡◌, ◌+◌, ◌*◌, ◌^◌, ◌<◌, ◌≤◌, ◌&&◌, ◌==◌, length, IfOk, IfSome, Some};
+ghost use Rattle.std.specs.Option.{option_map};
+ghost use Rattle.script_reader.specs.Fields.{same, first_field, after_field, digit, digits_from, number, number_below, word, clock, count, fields_in, data_of};
+
+use hex::FromHexError;
+use kernel_values::OutOfMemory;
+use std::alloc::Global;
+
+/// Whether two texts are the same.
+#[tactic(auto, using(crate::proofs::FieldSteps::same_end, crate::proofs::FieldSteps::same_lengths))]
+pub fn is_same(text: &[u8], other: &[u8]) -> bool
+    ensures { result ≡ same text.now other.now }
+{
+    if text.len() != other.len() {
+        return false;
+    }
+    for i in 0..text.len() {
+        if text[i] != other[i] {
+            return false;
+        }
+    }
+    true
+}
+
+/// The field in front, and what follows the space behind it.
+pub fn cut_field(line: &[u8]) -> (&[u8], Option<&[u8]>)
+    ensures first { result.0.now ≡ first_field line.now }
+    ensures rest { option_map (λ r. r.now) result.1 ≡ after_field line.now }
+{
+    for i in 0..line.len() {
+        if line[i] == b' ' {
+            return (&line[..i], Some(&line[i + 1..]));
+        }
+    }
+    (line, None)
+}
+
+fn digit_value(c: u8) -> Option<u8>
+    ensures value { result ≡ digit c }
+    ensures small { IfSome result (λ d. d < 16) }
+{
+    match c {
+        b'0'..=b'9' => Some(c - b'0'),
+        b'a'..=b'f' => Some(c - b'a' + 10),
+        b'A'..=b'F' => Some(c - b'A' + 10),
+        _ => None,
+    }
+}
+
+/// The number of at most 16 digits.
+fn digits_value(digits: &[u8]) -> Option<u64>
+    requires { length digits.now ≤ 16 }
+    ensures { result ≡ digits_from 0 digits.now }
+{
+    let mut value: u64 = 0;
+    for c in digits {
+        let Some(d) = digit_value(*c) else {
+            return None;
+        };
+        value = value * 16 + u64::from(d);
+    }
+    Some(value)
+}
+
+/// The number of a field of 1 to 16 digits.
+pub fn number_in(field: &[u8]) -> Option<u64>
+    ensures { result ≡ number field.now }
+{
+    if field.is_empty() || field.len() > 16 {
+        return None;
+    }
+    digits_value(field)
+}
+
+/// The number of a field that is below 2^32.
+pub fn word_in(field: &[u8]) -> Option<u32>
+    ensures { result ≡ word field.now }
+{
+    let Some(n) = number_in(field) else {
+        return None;
+    };
+    u32::try_from(n).ok()
+}
+
+/// The number of a field that is below 2^62.
+pub fn clock_in(field: &[u8]) -> Option<u64>
+    ensures is { result ≡ clock field.now }
+    ensures below { IfSome result (λ n. n < 2 ^ 62) }
+{
+    let Some(n) = number_in(field) else {
+        return None;
+    };
+    if n < 1 << 62 { Some(n) } else { None }
+}
+
+/// The number of a field that is below 2^63.
+pub fn count_in(field: &[u8]) -> Option<i64>
+    ensures { result ≡ count field.now }
+{
+    let Some(n) = number_in(field) else {
+        return None;
+    };
+    i64::try_from(n).ok()
+}
+
+/// `N` words and no more.
+pub fn words_in<const N: usize>(rest: &[u8]) -> Option<[u32; N]>
+    ensures { result ≡ fields_in word N (Some rest.now) }
+{
+    let mut words = [0u32; N];
+    let mut left = Some(rest);
+    for i in 0..N {
+        let Some(line) = left else {
+            return None;
+        };
+        let (field, after) = cut_field(line);
+        let Some(word) = word_in(field) else {
+            return None;
+        };
+        words[i] = word;
+        left = after;
+    }
+    match left {
+        Some(_) => None,
+        None => Some(words),
+    }
+}
+
+/// `N` numbers below 2^63 and no more.
+pub fn counts_in<const N: usize>(rest: &[u8]) -> Option<[i64; N]>
+    ensures { result ≡ fields_in count N (Some rest.now) }
+{
+    let mut counts = [0i64; N];
+    let mut left = Some(rest);
+    for i in 0..N {
+        let Some(line) = left else {
+            return None;
+        };
+        let (field, after) = cut_field(line);
+        let Some(count) = count_in(field) else {
+            return None;
+        };
+        counts[i] = count;
+        left = after;
+    }
+    match left {
+        Some(_) => None,
+        None => Some(counts),
+    }
+}
+
+/// The bytes of a field.
+pub fn bytes_in(alloc: Global, field: &[u8]) -> Result<Option<Vec<u8>>, OutOfMemory>
+    ensures { IfOk result (λ r. option_map (λ v. v.items) r ≡ data_of field.now) }
+{
+    if is_same(field, b"-") {
+        return Ok(Some(Vec::new(alloc)));
+    }
+    if field.is_empty() {
+        return Ok(None);
+    }
+    match hex::decode(alloc, field) {
+        Ok(bytes) => Ok(Some(bytes)),
+        Err(FromHexError::OutOfMemory) => Err(OutOfMemory),
+        Err(_) => Ok(None),
+    }
+}

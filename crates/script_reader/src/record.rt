@@ -1,0 +1,52 @@
+//! What a line of a script says.
+
+use abi_registers::Registers;
+use kernel_values::{AbiKind, Credentials, Usage};
+
+/// What a line says that isn't passed over.
+#[derive(Drop)]
+pub enum Record {
+    /// The first line: which ABI the script is of, in version 1 of its grammar.
+    Header {
+        abi: AbiKind,
+    },
+    /// The real and the monotonic clock, in nanoseconds, each below 2^62.
+    Clock {
+        real: u64,
+        monotonic: u64,
+    },
+    /// Whose process it is, and whether it has the privilege.
+    Who {
+        owner: Credentials,
+        privileged: bool,
+    },
+    /// What the process has used.
+    Usage {
+        usage: Usage,
+    },
+    /// The return address of signal handlers.
+    Restorer {
+        address: u32,
+    },
+    /// A page at a multiple of 4,096, with at most so many bytes at its front.
+    Page {
+        at: u32,
+        writable: bool,
+        bytes: Vec<u8>,
+    },
+    /// Bytes in mapped pages, whatever their rights.
+    Poke {
+        at: u32,
+        bytes: Vec<u8>,
+    },
+    /// A call, with all registers at its entry.
+    Call {
+        registers: Registers,
+    },
+    /// Nanoseconds that pass on both clocks, below 2^62.
+    Advance {
+        nanos: u64,
+    },
+    /// The state is to be written.
+    Show,
+}

@@ -1,0 +1,207 @@
+//! What has been seen of a script, and whether a line may stand at its place.
+
+ghost use Rattle.std.specs.Prelude.{◌≡◌, ◌+◌, ◌/◌, ◌^◌, ◌<◌, ◌≤◌, ◌||◌, nat_le, length, IfOk, IfSome, OnOk};
+ghost use Rattle.std.specs.BTreeSet.{btree_set_len};
+ghost use Rattle.script_reader.specs.Grammar.{line_of, said_by, IsInRange};
+ghost use Rattle.script_reader.specs.Seen.{new_seen, has_page, is_covered, image_fault, misplaced, seen_with, is_passed, said, line_told, told_by};
+
+use crate::fault::LineCause;
+use crate::grammar::{abi_in, read_line};
+use crate::record::Record;
+use kernel_values::{AbiKind, OutOfMemory};
+use std::alloc::Global;
+use std::collections::BTreeSet;
+
+/// The most pages of an image.
+const MAX_PAGES: usize = 16_384;
+
+const PAGE_SIZE: usize = 4096;
+
+/// The first address that no 32-bit register holds.
+const END: usize = 0x1_0000_0000;
+
+/// The number of the page of an address.
+fn page_number(at: usize) -> u32
+    requires { at < 2 ^ 32 }
+    ensures { result ≡ at / 4096 }
+{
+    (at / PAGE_SIZE) as u32
+}
+
+/// An empty line or a comment.
+fn is_passed(line: &[u8]) -> bool
+    ensures { result ≡ is_passed line.now }
+{
+    match line.first() {
+        Some(b) => *b == b'#',
+        None => true,
+    }
+}
+
+/// What a line says, or its first cause by itself: the header as long as there was none.
+fn said(
+    alloc: Global,
+    abi: Option<AbiKind>,
+    line: &[u8],
+) -> Result<Result<Record, LineCause>, OutOfMemory>
+    requires { length line.now < 2 ^ 63 }
+    ensures line { IfOk result (λ r. said_by r ≡ said abi line.now) }
+    ensures range { IfOk result (λ r. IfOk r (λ x. IsInRange (line_of x))) }
+{
+    if let Some(kind) = abi {
+        return read_line(alloc, kind, line);
+    }
+    match abi_in(line) {
+        Some(abi) => Ok(Ok(Record::Header { abi })),
+        None => Ok(Err(LineCause::Header)),
+    }
+}
+
+/// What has been seen of a script so far.
+#[derive(Drop)]
+pub struct Seen {
+    /// How many lines, those that are passed over too.
+    pub lines: u64,
+    /// What the header says, once there was one.
+    pub abi: Option<AbiKind>,
+    pub clock: bool,
+    pub who: bool,
+    pub usage: bool,
+    pub restorer: bool,
+    /// Whether there was an event: a call, an advance or a show.
+    pub begun: bool,
+    /// The numbers of the pages that are mapped.
+    pub pages: BTreeSet<u32>,
+}
+
+impl Seen {
+    /// Nothing seen.
+    pub fn new(alloc: Global) -> Seen
+        ensures { result ≡ new_seen }
+    {
+        Seen {
+            lines: 0,
+            abi: None,
+            clock: false,
+            who: false,
+            usage: false,
+            restorer: false,
+            begun: false,
+            pages: BTreeSet::new(alloc),
+        }
+    }
+
+    /// Whether each byte of a range is in a page that is mapped, and the range doesn't pass 2^32. Each page is looked up
+    /// once.
+    fn covers(&self, at: u32, length: usize) -> bool
+        ensures { result ≡ is_covered self.now.pages at length }
+    {
+        let mut next = at as usize;
+        if length > END - next {
+            return false;
+        }
+        let end = next + length;
+        while next < end {
+            let number = page_number(next);
+            if !self.pages.contains(&number) {
+                return false;
+            }
+            next = (number as usize + 1) * PAGE_SIZE;
+        }
+        true
+    }
+
+    /// Why a line of the image may not stand here.
+    fn image_fault(&self, given: bool) -> Option<LineCause>
+        ensures { result ≡ image_fault self.now given }
+    {
+        if self.begun {
+            return Some(LineCause::Order);
+        }
+        if given {
+            return Some(LineCause::Image);
+        }
+        None
+    }
+
+    /// Whether no page with this number can be mapped any more.
+    fn is_page_given(&self, number: u32) -> bool
+        ensures { result ≡ (has_page self.now.pages number || nat_le 16384 (btree_set_len self.now.pages)) }
+    {
+        self.pages.contains(&number) || self.pages.len() >= MAX_PAGES
+    }
+
+    /// Why a line may not stand here.
+    fn misplaced(&self, entry: &Record) -> Option<LineCause>
+        ensures { result ≡ misplaced self.now (line_of entry.now) }
+    {
+        match entry {
+            Record::Clock { .. } => self.image_fault(self.clock),
+            Record::Who { .. } => self.image_fault(self.who),
+            Record::Usage { .. } => self.image_fault(self.usage),
+            Record::Restorer { .. } => self.image_fault(self.restorer),
+            Record::Page { at, .. } => self.image_fault(self.is_page_given(page_number(
+                *at as usize,
+            ))),
+            Record::Poke { at, bytes } => {
+                if self.covers(*at, bytes.len()) {
+                    None
+                } else {
+                    Some(LineCause::Image)
+                }
+            }
+            Record::Header { .. } | Record::Call { .. } | Record::Advance { .. } | Record::Show =>
+                None,
+        }
+    }
+
+    /// Sees a line that may stand here.
+    fn see(&mut self, entry: &Record) -> Result<(), OutOfMemory>
+        ensures seen { OnOk result (self.new ≡ seen_with self.old (line_of entry.now)) }
+        ensures lines { self.new.lines ≡ self.old.lines }
+    {
+        match entry {
+            Record::Header { abi } => self.abi = Some(*abi),
+            Record::Clock { .. } => self.clock = true,
+            Record::Who { .. } => self.who = true,
+            Record::Usage { .. } => self.usage = true,
+            Record::Restorer { .. } => self.restorer = true,
+            Record::Page { at, .. } => {
+                self.pages.insert(page_number(*at as usize))?;
+            }
+            Record::Poke { .. } => {}
+            Record::Call { .. } | Record::Advance { .. } | Record::Show => self.begun = true,
+        }
+        Ok(())
+    }
+
+    /// What a whole line comes to, without its line feed: a record, the cause for which it is bad, or `None` where it
+    /// is passed over.
+    #[tactic(auto, unfolding(crate::specs::Seen::line_told))]
+    pub fn tell(
+        &mut self,
+        alloc: Global,
+        line: &[u8],
+    ) -> Result<Result<Option<Record>, LineCause>, OutOfMemory>
+        requires few { self.old.lines < 2 ^ 63 }
+        requires short { length line.now < 2 ^ 63 }
+        ensures told { IfOk result (λ r. told_by r self.new ≡ line_told self.old line.now) }
+        ensures range { IfOk result (λ r. IfOk r (λ o. IfSome o (λ x. IsInRange (line_of x)))) }
+        ensures lines { self.new.lines ≤ self.old.lines + 1 }
+    {
+        if is_passed(line) {
+            self.lines += 1;
+            return Ok(Ok(None));
+        }
+        let record = match said(alloc, self.abi, line)? {
+            Ok(record) => record,
+            Err(cause) => return Ok(Err(cause)),
+        };
+        if let Some(cause) = self.misplaced(&record) {
+            return Ok(Err(cause));
+        }
+        self.lines += 1;
+        self.see(&record)?;
+        Ok(Ok(Some(record)))
+    }
+}
