@@ -1,21 +1,37 @@
 -- The names of calls, in ASCII.
 use Rattle.std.specs.Prelude.{ℕ, List, codes}
 use Rattle.call_tables.specs.declared.operation.Operation.{Operation}
-use Rattle.call_tables.specs.declared.operation.Operation.TheVariants.{ClockGetres, ClockGettime, ClockNanosleep, ClockSettime, Exit, ExitGroup, Getgid32, Getpid, Getrusage, Gettimeofday, Getuid32, Nanosleep, Prlimit64, Setrlimit, Ugetrlimit}
+use Rattle.call_tables.specs.declared.operation.Operation.TheVariants.{Chdir, ClockGetres, ClockGettime, ClockNanosleep, ClockSettime, Close, Dup, Dup2, Dup3, Exit, ExitGroup, Fcntl, Fcntl64, Getcwd, Getgid32, Getpid, Getrusage, Gettimeofday, Getuid32, Llseek, Lseek, Nanosleep, Open, Openat, Pread64, Prlimit64, Pwrite64, Read, Setrlimit, Ugetrlimit, Write}
 
 unfoldable pub name : Operation → List ℕ
+name Chdir = codes "chdir"
 name ClockGetres = codes "clock_getres"
 name ClockGettime = codes "clock_gettime"
 name ClockNanosleep = codes "clock_nanosleep"
 name ClockSettime = codes "clock_settime"
+name Close = codes "close"
+name Dup = codes "dup"
+name Dup2 = codes "dup2"
+name Dup3 = codes "dup3"
 name Exit = codes "exit"
 name ExitGroup = codes "exit_group"
+name Fcntl = codes "fcntl"
+name Fcntl64 = codes "fcntl64"
+name Getcwd = codes "getcwd"
 name Getgid32 = codes "getgid32"
 name Getpid = codes "getpid"
 name Getrusage = codes "getrusage"
 name Gettimeofday = codes "gettimeofday"
 name Getuid32 = codes "getuid32"
+name Llseek = codes "_llseek"
+name Lseek = codes "lseek"
 name Nanosleep = codes "nanosleep"
+name Open = codes "open"
+name Openat = codes "openat"
+name Pread64 = codes "pread64"
 name Prlimit64 = codes "prlimit64"
+name Pwrite64 = codes "pwrite64"
+name Read = codes "read"
 name Setrlimit = codes "setrlimit"
 name Ugetrlimit = codes "ugetrlimit"
+name Write = codes "write"

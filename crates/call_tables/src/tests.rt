@@ -1,24 +1,38 @@
 use crate::{Operation, find_row};
-use abi_registers::Form::{self, Signed, Word};
+use abi_registers::Form::{self, Pair, Signed, Word};
 use kernel_values::AbiKind::{ArmEabi, Ia32};
 use std::test::*;
 
 /// A call with its numbers on i386 and arm, its name, its count, and its first forms.
-const CALLS: [(u32, u32, &[u8], usize, [Form; 2]); 15] = [
+const CALLS: [(u32, u32, &[u8], usize, [Form; 2]); 29] = [
     (1, 1, b"exit", 1, [Signed, Word]),
+    (3, 3, b"read", 3, [Signed, Word]),
+    (4, 4, b"write", 3, [Signed, Word]),
+    (5, 5, b"open", 3, [Word, Word]),
+    (6, 6, b"close", 1, [Signed, Word]),
+    (12, 12, b"chdir", 1, [Word, Word]),
+    (19, 19, b"lseek", 3, [Signed, Signed]),
     (20, 20, b"getpid", 0, [Word, Word]),
+    (41, 41, b"dup", 1, [Signed, Word]),
+    (55, 55, b"fcntl", 3, [Signed, Word]),
+    (63, 63, b"dup2", 2, [Signed, Signed]),
     (75, 75, b"setrlimit", 2, [Word, Word]),
     (77, 77, b"getrusage", 2, [Signed, Word]),
     (78, 78, b"gettimeofday", 2, [Word, Word]),
+    (140, 140, b"_llseek", 5, [Signed, Word]),
     (162, 162, b"nanosleep", 2, [Word, Word]),
+    (183, 183, b"getcwd", 2, [Word, Word]),
     (191, 191, b"ugetrlimit", 2, [Word, Word]),
     (199, 199, b"getuid32", 0, [Word, Word]),
     (200, 200, b"getgid32", 0, [Word, Word]),
+    (221, 221, b"fcntl64", 3, [Signed, Word]),
     (252, 248, b"exit_group", 1, [Signed, Word]),
     (264, 262, b"clock_settime", 2, [Signed, Word]),
     (265, 263, b"clock_gettime", 2, [Signed, Word]),
     (266, 264, b"clock_getres", 2, [Signed, Word]),
     (267, 265, b"clock_nanosleep", 4, [Signed, Signed]),
+    (295, 322, b"openat", 4, [Signed, Word]),
+    (330, 358, b"dup3", 3, [Signed, Signed]),
     (340, 369, b"prlimit64", 4, [Signed, Word]),
 ];
 
@@ -40,10 +54,23 @@ fn each_call_has_its_row_on_both(rt: HostRuntime) -> Result<(), Fail> {
 }
 
 #[test]
+fn offsets_are_pairs(rt: HostRuntime) -> Result<(), Fail> {
+    for (number, name) in [(180, "pread64"), (181, "pwrite64")] {
+        for abi in [Ia32, ArmEabi] {
+            let row = find_row(abi, number).ok_or("no row")?;
+            assert_eq!(rt; row.operation.name(), name);
+            assert_eq!(rt; row.count, 4);
+            assert_eq!(rt; row.forms, [Signed, Word, Word, Pair, Word, Word]);
+        }
+    }
+    Ok(())
+}
+
+#[test]
 fn other_numbers_have_no_row(rt: HostRuntime) {
     for abi in [Ia32, ArmEabi] {
         let rows = (0..1024).filter(|number| find_row(abi, *number).is_some());
-        assert_eq!(rt; rows.count(), CALLS.len());
+        assert_eq!(rt; rows.count(), CALLS.len() + 2);
         for number in [0xf_0000, 0xf_0002, 0xf_0005, 0x7fff_ffff, 0xffff_ffff] {
             assert!(rt; find_row(abi, number).is_none(), "at {number}");
         }

@@ -4,7 +4,7 @@ use Rattle.std.specs.Int.{w64, cast_unsigned}
 use Rattle.kernel_values.specs.declared.identity.Credentials.{Credentials}
 use Rattle.kernel_values.specs.declared.times.Usage.{Usage}
 use Rattle.native_kernel.specs.declared.state.Kernel.{Kernel}
-use Rattle.native_kernel.specs.declared.state.End.TheVariants as end
+use Rattle.kernel_values.specs.declared.process_end.End.TheVariants as end
 use Rattle.native_kernel.specs.Operations as native
 use Rattle.abi_registers.specs.declared.arguments.Args.{Args}
 use Rattle.abi_registers.specs.Values.{signed, word}

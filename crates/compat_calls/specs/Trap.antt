@@ -5,7 +5,7 @@ use Rattle.kernel_values.specs.declared.errno.Errno.{Errno}
 use Rattle.kernel_values.specs.declared.errno.Errno.TheVariants.{NoCall}
 use Rattle.kernel_values.specs.declared.errno.OutOfMemory.{OutOfMemory}
 use Rattle.native_kernel.specs.declared.state.Kernel.{Kernel}
-use Rattle.native_kernel.specs.declared.state.End.{End}
+use Rattle.kernel_values.specs.declared.process_end.End.{End}
 use Rattle.abi_registers.specs.declared.registers.Registers.{Registers}
 use Rattle.abi_registers.specs.Arguments.{args_of}
 use Rattle.abi_registers.specs.Places.{kind_in, number_in, words_in, with_result}

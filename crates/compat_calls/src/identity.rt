@@ -5,9 +5,9 @@ ghost use Rattle.served_calls.specs.Calls.{ServesAlways, served};
 ghost use Rattle.compat_calls.specs.Identity.{exit, getgid32, getpid, getrusage, getuid32};
 
 use abi_registers::Args;
-use kernel_values::Answer;
+use kernel_values::{Answer, End};
 use layout_laws::Compat;
-use native_kernel::{End, Kernel};
+use native_kernel::Kernel;
 use served_calls::store_shape;
 use time_layouts::Usage32;
 use user_memory::UserMemory;

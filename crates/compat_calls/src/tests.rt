@@ -1,8 +1,11 @@
+//! Each call on both ABIs, with the refusals in their order. A helper says nothing of what it gives: so the proof of a
+//! test knows nothing of the world's state, however large that is.
+
 use crate::{World, trap_by_kind};
 use abi_registers::Registers;
-use kernel_values::{Errno, TimeSpec, Usage};
+use kernel_values::{End, Errno, TimeSpec, Usage};
 use layout_laws::{Abi, ArmEabi, Ia32};
-use native_kernel::{End, Identity};
+use native_kernel::Identity;
 use served_calls::{fetch_optional, fetch_shape, store_optional, store_shape};
 use std::alloc::Global;
 use std::process::Abort;
@@ -33,14 +36,15 @@ const EINVAL: u32 = 0xffff_ffea;
 
 const ENOSYS: u32 = 0xffff_ffda;
 
-/// A page at 1000 for all, and one at 3000 to read.
-fn world(alloc: Global, privileged: bool) -> Option<World> {
+/// A page at 1000 for all, and one at 3000 to read. The first begins with these bytes.
+fn world(alloc: Global, privileged: bool, bytes: &[u8]) -> Result<World, Fail> {
     let mut identity = OWNER;
     identity.privileged = privileged;
-    let mut world = World::new(alloc, &identity, 0).ok()?;
-    world.memory.map_page(1, Rights::ReadWrite).ok()?;
-    world.memory.map_page(3, Rights::Read).ok()?;
-    Some(world)
+    let mut world = World::new(alloc, &identity, 0)?;
+    world.memory.map_page(1, Rights::ReadWrite)?;
+    world.memory.map_page(3, Rights::Read)?;
+    world.memory.poke(0x1000, bytes)?;
+    Ok(world)
 }
 
 fn arm(number: u32, words: [u32; 4]) -> Registers {
@@ -77,136 +81,150 @@ fn result(alloc: Global, world: &mut World, number: u32, words: [u32; 4]) -> Opt
     }
 }
 
-fn bytes(world: &World, at: u32) -> Option<[u8; 16]> {
-    let mut bytes = [1; 16];
+/// Calls by Arm's numbers, their words, and their results.
+fn are_served(rt: &impl Abort, alloc: Global, world: &mut World, calls: &[(u32, [u32; 4], u32)]) {
+    for (number, words, word) in calls {
+        assert_eq!(rt;
+            result(alloc, world, *number, *words),
+            Some(*word),
+            "call {number}"
+        );
+    }
+}
+
+fn bytes(world: &World, at: u32) -> Option<[u8; 8]> {
+    let mut bytes = [1; 8];
     world.memory.copy_in(at, &mut bytes).ok()?;
     Some(bytes)
 }
 
+/// The bytes at each place are these.
+fn are_stored(rt: &impl Abort, world: &World, places: &[(u32, [u8; 8])]) {
+    for (at, stored) in places {
+        assert_eq!(rt; bytes(world, *at), Some(*stored), "at {at:x}");
+    }
+}
+
+/// A clock tells this time.
+fn is_time(rt: &impl Abort, world: &World, id: i64, nanos: u64) {
+    assert_eq!(rt; world.kernel.clock(id).ok(), Some(nanos));
+}
+
+/// An exit leaves the registers as they are, and the process has ended with code 7.
+fn is_exit(rt: &impl Abort, alloc: Global, world: &mut World, registers: Registers) {
+    assert_eq!(rt; after(alloc, world, &registers), Some(registers));
+    assert_eq!(rt; world.kernel.ended(), Some(End::Exit(7)));
+}
+
+/// The second 2^31, as both ABIs store it.
+const REAL_BYTES: [u8; 8] = [0, 0, 0, 0x80, 0, 0, 0, 0];
+
 #[test]
 fn time_is_told_on_both(rt: HostRuntime) -> Result<(), Fail> {
     let alloc = rt.alloc();
-    let mut world = world(alloc, false).ok_or("memory")?;
+    let mut world = world(alloc, false, &[])?;
     let told = after(alloc, &mut world, &ia32(265, [0, 0x1000, 0, 0]));
     assert_eq!(rt; told, Some(ia32(0, [0, 0x1000, 0, 0])));
-    let stored = bytes(&world, 0x1000).ok_or("bytes")?;
-    assert_eq!(rt; &stored[..8], [0, 0, 0, 0x80, 0, 0, 0, 0].as_slice());
-    assert_eq!(rt; result(alloc, &mut world, 263, [1, 0x1008, 0, 0]), Some(0));
-    let stored = bytes(&world, 0x1008).ok_or("bytes")?;
-    assert_eq!(rt; &stored[..8], [0, 0, 0, 0, 7, 0, 0, 0].as_slice());
+    are_served(&rt, alloc, &mut world, &[(263, [1, 0x1008, 0, 0], 0)]);
+    let places = [(0x1000, REAL_BYTES), (0x1008, [0, 0, 0, 0, 7, 0, 0, 0])];
+    are_stored(&rt, &world, &places);
     Ok(())
 }
 
 #[test]
 fn clocks_refuse_in_order(rt: HostRuntime) -> Result<(), Fail> {
-    let alloc = rt.alloc();
-    let mut world = world(alloc, false).ok_or("memory")?;
-    let world = &mut world;
-    assert_eq!(rt; result(alloc, world, 263, [2, 0x5000, 0, 0]), Some(EINVAL));
-    assert_eq!(rt; result(alloc, world, 263, [0, 0x3000, 0, 0]), Some(EFAULT));
-    assert_eq!(rt; result(alloc, world, 262, [1, 0x5000, 0, 0]), Some(EFAULT));
-    assert_eq!(rt; result(alloc, world, 262, [1, 0x1000, 0, 0]), Some(EINVAL));
-    assert_eq!(rt; result(alloc, world, 262, [0, 0x1000, 0, 0]), Some(EPERM));
-    assert_eq!(rt;
-        result(alloc, world, 264, [u32::MAX, 0, 0, 0]),
-        Some(EINVAL)
-    );
-    assert_eq!(rt; result(alloc, world, 264, [1, 0, 0, 0]), Some(0));
-    assert_eq!(rt; result(alloc, world, 264, [1, 0x1000, 0, 0]), Some(0));
-    let stored = bytes(world, 0x1000).ok_or("bytes")?;
-    assert_eq!(rt; &stored[..8], [0, 0, 0, 0, 1, 0, 0, 0].as_slice());
+    let mut world = world(rt.alloc(), false, &[])?;
+    let calls = [
+        (263, [2, 0x5000, 0, 0], EINVAL),
+        (263, [0, 0x3000, 0, 0], EFAULT),
+        (262, [1, 0x5000, 0, 0], EFAULT),
+        (262, [1, 0x1000, 0, 0], EINVAL),
+        (262, [0, 0x1000, 0, 0], EPERM),
+        (264, [u32::MAX, 0, 0, 0], EINVAL),
+        (264, [1, 0, 0, 0], 0),
+        (264, [1, 0x1000, 0, 0], 0),
+    ];
+    are_served(&rt, rt.alloc(), &mut world, &calls);
+    are_stored(&rt, &world, &[(0x1000, [0, 0, 0, 0, 1, 0, 0, 0])]);
     Ok(())
 }
 
 #[test]
 fn a_zone_is_eight_zero_bytes(rt: HostRuntime) -> Result<(), Fail> {
-    let alloc = rt.alloc();
-    let mut world = world(alloc, true).ok_or("memory")?;
-    let world = &mut world;
-    world.memory.poke(0x1000, &[5; 16])?;
-    assert_eq!(rt; result(alloc, world, 78, [0, 0, 0, 0]), Some(0));
-    assert_eq!(rt; result(alloc, world, 78, [0, 0x1008, 0, 0]), Some(0));
-    let stored = bytes(world, 0x1000).ok_or("bytes")?;
-    assert_eq!(rt; &stored[8..], [0; 8].as_slice());
-    assert_eq!(rt;
-        result(alloc, world, 78, [0x1000, 0x3000, 0, 0]),
-        Some(EFAULT)
-    );
-    let stored = bytes(world, 0x1000).ok_or("bytes")?;
-    assert_eq!(rt; &stored[..8], [0, 0, 0, 0x80, 0, 0, 0, 0].as_slice());
-    assert_eq!(rt; result(alloc, world, 262, [0, 0x1008, 0, 0]), Some(0));
-    assert_eq!(rt; world.kernel.clock(0), Ok(0));
+    let mut world = world(rt.alloc(), true, &[5; 16])?;
+    let calls = [
+        (78, [0, 0, 0, 0], 0),
+        (78, [0, 0x1008, 0, 0], 0),
+        (78, [0x1000, 0x3000, 0, 0], EFAULT),
+        (262, [0, 0x1008, 0, 0], 0),
+    ];
+    are_served(&rt, rt.alloc(), &mut world, &calls);
+    are_stored(&rt, &world, &[(0x1000, REAL_BYTES), (0x1008, [0; 8])]);
+    is_time(&rt, &world, 0, 0);
     Ok(())
 }
 
 #[test]
 fn sleeps_move_clocks(rt: HostRuntime) -> Result<(), Fail> {
-    let alloc = rt.alloc();
-    let mut world = world(alloc, false).ok_or("memory")?;
-    let world = &mut world;
-    world.memory.poke(
-        0x1000,
-        &[1, 0, 0, 0, 2, 0, 0, 0, 0, 0, 0, 0, 0xff, 0xff, 0xff, 0xff],
-    )?;
-    assert_eq!(rt; result(alloc, world, 162, [0x1000, 0, 0, 0]), Some(0));
-    assert_eq!(rt; world.kernel.clock(1), Ok(1_000_000_009));
-    assert_eq!(rt; result(alloc, world, 265, [1, 1, 0x1000, 0]), Some(0));
-    assert_eq!(rt; world.kernel.clock(1), Ok(1_000_000_009));
-    assert_eq!(rt; result(alloc, world, 265, [1, 2, 0x1000, 0]), Some(0));
-    assert_eq!(rt; world.kernel.clock(1), Ok(2_000_000_011));
-    assert_eq!(rt;
-        result(alloc, world, 265, [u32::MAX, 0, 0x1008, 0]),
-        Some(EINVAL)
-    );
-    assert_eq!(rt; result(alloc, world, 265, [0, 0, 0x1008, 0]), Some(EINVAL));
-    assert_eq!(rt; result(alloc, world, 162, [0x4000, 0, 0, 0]), Some(EFAULT));
+    let times = [1, 0, 0, 0, 2, 0, 0, 0, 0, 0, 0, 0, 0xff, 0xff, 0xff, 0xff];
+    let mut world = world(rt.alloc(), false, &times)?;
+    let sleeps = [
+        (162, [0x1000, 0, 0, 0], 0, 1_000_000_009),
+        (265, [1, 1, 0x1000, 0], 0, 1_000_000_009),
+        (265, [1, 2, 0x1000, 0], 0, 2_000_000_011),
+        (265, [u32::MAX, 0, 0x1008, 0], EINVAL, 2_000_000_011),
+        (265, [0, 0, 0x1008, 0], EINVAL, 2_000_000_011),
+        (162, [0x4000, 0, 0, 0], EFAULT, 2_000_000_011),
+    ];
+    for (number, words, word, monotonic) in sleeps {
+        are_served(&rt, rt.alloc(), &mut world, &[(number, words, word)]);
+        is_time(&rt, &world, 1, monotonic);
+    }
     Ok(())
 }
 
 #[test]
 fn limits_are_told_and_set(rt: HostRuntime) -> Result<(), Fail> {
-    let alloc = rt.alloc();
-    let mut world = world(alloc, false).ok_or("memory")?;
-    let world = &mut world;
-    world
-        .memory
-        .poke(0x1000, &[5, 0, 0, 0, 0, 0, 0, 0, 6, 0, 0, 0, 0, 0, 0, 0])?;
-    assert_eq!(rt; result(alloc, world, 369, [77, 7, 0x1000, 0]), Some(ESRCH));
-    assert_eq!(rt;
-        result(alloc, world, 369, [77, 16, 0x1000, 0]),
-        Some(EINVAL)
-    );
-    assert_eq!(rt;
-        result(alloc, world, 369, [0, 7, 0x1000, 0x3000]),
-        Some(EFAULT)
-    );
-    assert_eq!(rt; result(alloc, world, 369, [1_000, 7, 0, 0x1100]), Some(0));
-    let stored = bytes(world, 0x1100).ok_or("bytes")?;
-    assert_eq!(rt; stored, [5, 0, 0, 0, 0, 0, 0, 0, 6, 0, 0, 0, 0, 0, 0, 0]);
-    assert_eq!(rt; result(alloc, world, 75, [7, 0x1000, 0, 0]), Some(EINVAL));
-    assert_eq!(rt; result(alloc, world, 75, [1, 0x1004, 0, 0]), Some(0));
-    assert_eq!(rt; result(alloc, world, 191, [1, 0x1100, 0, 0]), Some(0));
-    let stored = bytes(world, 0x1100).ok_or("bytes")?;
-    assert_eq!(rt; &stored[..8], [0, 0, 0, 0, 6, 0, 0, 0].as_slice());
+    let limits = [5, 0, 0, 0, 0, 0, 0, 0, 6, 0, 0, 0, 0, 0, 0, 0];
+    let mut world = world(rt.alloc(), false, &limits)?;
+    let calls = [
+        (369, [77, 7, 0x1000, 0], ESRCH),
+        (369, [77, 16, 0x1000, 0], EINVAL),
+        (369, [0, 7, 0x1000, 0x3000], EFAULT),
+        (369, [1_000, 7, 0, 0x1100], 0),
+    ];
+    are_served(&rt, rt.alloc(), &mut world, &calls);
+    let told = [
+        (0x1100, [5, 0, 0, 0, 0, 0, 0, 0]),
+        (0x1108, [6, 0, 0, 0, 0, 0, 0, 0]),
+    ];
+    are_stored(&rt, &world, &told);
+    let calls = [
+        (75, [7, 0x1000, 0, 0], EINVAL),
+        (75, [1, 0x1004, 0, 0], 0),
+        (191, [1, 0x1100, 0, 0], 0),
+    ];
+    are_served(&rt, rt.alloc(), &mut world, &calls);
+    are_stored(&rt, &world, &[(0x1100, [0, 0, 0, 0, 6, 0, 0, 0])]);
     Ok(())
 }
 
 #[test]
 fn usage_and_identity_are_told(rt: HostRuntime) -> Result<(), Fail> {
-    let alloc = rt.alloc();
-    let mut world = world(alloc, false).ok_or("memory")?;
-    let world = &mut world;
-    assert_eq!(rt; result(alloc, world, 77, [0, 0x1000, 0, 0]), Some(0));
-    let stored = bytes(world, 0x1000).ok_or("bytes")?;
-    assert_eq!(rt; &stored[..8], [2, 0, 0, 0, 2, 0, 0, 0].as_slice());
-    assert_eq!(rt; result(alloc, world, 77, [u32::MAX, 0x1000, 0, 0]), Some(0));
-    let stored = bytes(world, 0x1000).ok_or("bytes")?;
-    assert_eq!(rt; stored, [0; 16]);
-    assert_eq!(rt; result(alloc, world, 77, [2, 0x1000, 0, 0]), Some(EINVAL));
-    assert_eq!(rt; result(alloc, world, 20, [0; 4]), Some(1_000));
-    assert_eq!(rt; result(alloc, world, 199, [0; 4]), Some(1_001));
-    assert_eq!(rt; result(alloc, world, 200, [0; 4]), Some(1_002));
-    assert_eq!(rt; result(alloc, world, 0x7fff_ffff, [0; 4]), Some(ENOSYS));
+    let mut world = world(rt.alloc(), false, &[])?;
+    for (who, used) in [(0, 2), (u32::MAX, 0)] {
+        are_served(&rt, rt.alloc(), &mut world, &[(77, [who, 0x1000, 0, 0], 0)]);
+        let times = [used, 0, 0, 0, used, 0, 0, 0];
+        are_stored(&rt, &world, &[(0x1000, times), (0x1008, times)]);
+    }
+    let calls = [
+        (77, [2, 0x1000, 0, 0], EINVAL),
+        (20, [0; 4], 1_000),
+        (199, [0; 4], 1_001),
+        (200, [0; 4], 1_002),
+        (0x7fff_ffff, [0; 4], ENOSYS),
+    ];
+    are_served(&rt, rt.alloc(), &mut world, &calls);
     Ok(())
 }
 
@@ -231,46 +249,53 @@ const IA32_CALLS: [(u32, [u32; 4], u32); 14] = [
 #[test]
 fn each_call_is_served_on_ia32(rt: HostRuntime) -> Result<(), Fail> {
     let alloc = rt.alloc();
-    let mut world = world(alloc, true).ok_or("memory")?;
+    let mut world = world(alloc, true, &[])?;
     for (number, words, word) in IA32_CALLS {
         let told = after(alloc, &mut world, &ia32(number, words));
-        assert_eq!(rt; told, Some(ia32(word, words)));
+        assert_eq!(rt; told, Some(ia32(word, words)), "call {number}");
     }
-    let last = ia32(252, [0x107, 0, 0, 0]);
-    assert_eq!(rt; after(alloc, &mut world, &last), Some(last));
-    assert_eq!(rt; world.kernel.ended(), Some(End::Exit(7)));
+    is_exit(&rt, alloc, &mut world, ia32(252, [0x107, 0, 0, 0]));
     Ok(())
 }
 
-fn shapes_are_fetched_and_stored<A: Abi, R: Abort + AllocGlobal>(rt: &R) -> Result<(), Fail> {
-    let mut world = world(rt.alloc(), false).ok_or("memory")?;
+const TIME: TimeSpec32 = TimeSpec32 {
+    time: TimeSpec {
+        seconds: 1,
+        nanos: 2,
+    },
+};
+
+/// A time is stored where there is a place for it, by the two ways.
+fn are_shapes_stored<A: Abi>(rt: &impl Abort, world: &mut World) {
     let memory = &mut world.memory;
-    let time = TimeSpec32 {
-        time: TimeSpec {
-            seconds: 1,
-            nanos: 2,
-        },
-    };
-    assert_eq!(rt; store_shape::<A, TimeSpec32>(memory, 0x1000, &time), Ok(()));
-    assert_eq!(rt; fetch_shape::<A, TimeSpec32>(memory, 0x1000), Ok(time));
-    assert_eq!(rt;
-        store_shape::<A, TimeSpec32>(memory, 0x3000, &time),
-        Err(Errno::BadAddress)
-    );
-    assert_eq!(rt;
+    let stored = [
+        store_shape::<A, TimeSpec32>(memory, 0x1000, &TIME),
+        store_shape::<A, TimeSpec32>(memory, 0x3000, &TIME),
+        store_optional::<A, TimeSpec32>(memory, 0, &TIME),
+        store_optional::<A, TimeSpec32>(memory, 0x1100, &TIME),
+    ];
+    assert_eq!(rt; stored, [Ok(()), Err(Errno::BadAddress), Ok(()), Ok(())]);
+}
+
+/// They are fetched again.
+fn are_shapes_fetched<A: Abi>(rt: &impl Abort, world: &World) {
+    let memory = &world.memory;
+    let fetched = [
+        fetch_shape::<A, TimeSpec32>(memory, 0x1000),
         fetch_shape::<A, TimeSpec32>(memory, 0x1ffc),
-        Err(Errno::BadAddress)
-    );
-    assert_eq!(rt; store_optional::<A, TimeSpec32>(memory, 0, &time), Ok(()));
-    assert_eq!(rt; fetch_optional::<A, TimeSpec32>(memory, 0), Ok(None));
-    assert_eq!(rt;
-        store_optional::<A, TimeSpec32>(memory, 0x1100, &time),
-        Ok(())
-    );
-    assert_eq!(rt;
+    ];
+    assert_eq!(rt; fetched, [Ok(TIME), Err(Errno::BadAddress)]);
+    let fetched = [
+        fetch_optional::<A, TimeSpec32>(memory, 0),
         fetch_optional::<A, TimeSpec32>(memory, 0x1100),
-        Ok(Some(time))
-    );
+    ];
+    assert_eq!(rt; fetched, [Ok(None), Ok(Some(TIME))]);
+}
+
+fn shapes_are_fetched_and_stored<A: Abi, R: Abort + AllocGlobal>(rt: &R) -> Result<(), Fail> {
+    let mut world = world(rt.alloc(), false, &[])?;
+    are_shapes_stored::<A>(rt, &mut world);
+    are_shapes_fetched::<A>(rt, &world);
     Ok(())
 }
 
@@ -282,10 +307,38 @@ fn shapes_are_fetched_and_stored_on_both(rt: HostRuntime) -> Result<(), Fail> {
 
 #[test]
 fn exit_puts_no_result(rt: HostRuntime) -> Result<(), Fail> {
-    let alloc = rt.alloc();
-    let mut world = world(alloc, false).ok_or("memory")?;
-    let last = arm(248, [0x107, 0, 0, 0]);
-    assert_eq!(rt; after(alloc, &mut world, &last), Some(last));
-    assert_eq!(rt; world.kernel.ended(), Some(End::Exit(7)));
+    let mut world = world(rt.alloc(), false, &[])?;
+    is_exit(&rt, rt.alloc(), &mut world, arm(248, [0x107, 0, 0, 0]));
+    Ok(())
+}
+
+/// The numbers of open, write, lseek and read, which both ABIs share, their words, and the results. The path stands at
+/// 1000; the file is made, and holds its first two bytes.
+const FILE_CALLS: [(u32, [u32; 4], u32); 4] = [
+    (5, [0x1000, 0x42, 0o644, 0], 0),
+    (4, [0, 0x1000, 2, 0], 2),
+    (19, [0, u32::MAX, 2, 0], 1),
+    (3, [0, 0x1100, 8, 0], 1),
+];
+
+/// The second byte alone was read.
+const READ_BYTES: (u32, [u8; 8]) = (0x1100, [b'f', 0, 0, 0, 0, 0, 0, 0]);
+
+#[test]
+fn a_file_is_written_and_read_on_arm(rt: HostRuntime) -> Result<(), Fail> {
+    let mut world = world(rt.alloc(), false, b"/f")?;
+    are_served(&rt, rt.alloc(), &mut world, &FILE_CALLS);
+    are_stored(&rt, &world, &[READ_BYTES]);
+    Ok(())
+}
+
+#[test]
+fn a_file_is_written_and_read_on_ia32(rt: HostRuntime) -> Result<(), Fail> {
+    let mut world = world(rt.alloc(), false, b"/f")?;
+    for (number, words, word) in FILE_CALLS {
+        let told = after(rt.alloc(), &mut world, &ia32(number, words));
+        assert_eq!(rt; told, Some(ia32(word, words)), "call {number}");
+    }
+    are_stored(&rt, &world, &[READ_BYTES]);
     Ok(())
 }

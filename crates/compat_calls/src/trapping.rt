@@ -37,7 +37,7 @@ fn answer<A: Compat>(
 /// eax or r0, an error number as its two's complement, and all others as they were. A call that ends
 /// the process leaves all of them.
 ///
-/// Want of memory comes only for a call that may take memory; no call that is built does.
+/// Want of memory comes only for a call that may take memory.
 #[tactic(auto, unfolding(crate::specs::Trap::trapped))]
 pub fn trap<A: Compat>(
     alloc: Global,

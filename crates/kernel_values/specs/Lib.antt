@@ -1,4 +1,6 @@
 pub mod Abi
 pub mod Errno
+pub mod Items
+pub mod OpenFlags
 pub mod Outcome
 pub mod Times

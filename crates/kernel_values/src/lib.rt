@@ -4,11 +4,19 @@
 mod abi;
 mod errno;
 mod identity;
+mod items;
+mod lists;
+mod open_flags;
+mod process_end;
 mod times;
 
 pub use abi::AbiKind;
 pub use errno::{Answer, Errno, KernelFault, OutOfMemory};
 pub use identity::Credentials;
+pub use items::{Attributes, OpenKind, StateItem};
+pub use lists::{ByteList, ItemList, NameText, PathText};
+pub use open_flags::OpenFlags;
+pub use process_end::End;
 pub use times::{Limit, TimeSpec, TimeVal, TimerValue, Usage};
 
 #[cfg(test)]

@@ -1,4 +1,4 @@
-use crate::{Errno, TimeSpec, TimeVal};
+use crate::{AbiKind, ByteList, Errno, NameText, OpenFlags, TimeSpec, TimeVal};
 use std::test::Fail;
 
 #[test]
@@ -39,5 +39,49 @@ fn times_are_counts_of_nanoseconds(rt: HostRuntime) -> Result<(), Fail> {
             micros: 1
         }
     );
+    Ok(())
+}
+
+#[test]
+fn flags_are_read_and_written_by_abi(rt: HostRuntime) -> Result<(), Fail> {
+    let i386 = OpenFlags::from_word(AbiKind::Ia32, 0xffff_ffff);
+    assert_eq!(rt; i386.to_word(AbiKind::Ia32), 0xb_cec3);
+    // O_DIRECTORY 040000, O_NOFOLLOW 0100000, O_DIRECT 0200000 and O_LARGEFILE 0400000 on Arm.
+    let directory = OpenFlags::from_word(AbiKind::ArmEabi, 0x4000);
+    assert!(rt; directory.wants_directory() && !directory.is_large());
+    assert_eq!(rt; directory.to_word(AbiKind::Ia32), 0x1_0000);
+    let no_follow = OpenFlags::from_word(AbiKind::ArmEabi, 0x8000);
+    assert_eq!(rt; no_follow.to_word(AbiKind::Ia32), 0x2_0000);
+    let direct = OpenFlags::from_word(AbiKind::ArmEabi, 0x1_0000);
+    assert_eq!(rt; direct.to_word(AbiKind::Ia32), 0x4000);
+    let large = OpenFlags::from_word(AbiKind::ArmEabi, 0x2_0000);
+    assert!(rt; large.is_large() && !large.creates());
+    assert_eq!(rt; large.to_word(AbiKind::ArmEabi), 0x2_0000);
+    Ok(())
+}
+
+#[test]
+fn flags_tell_what_an_open_asks_for(rt: HostRuntime) -> Result<(), Fail> {
+    let all = OpenFlags::from_word(AbiKind::Ia32, 0o2_001_302);
+    assert!(rt; all.can_read() && all.can_write() && all.asks_write());
+    assert!(rt; all.creates() && all.is_exclusive() && all.truncates());
+    assert!(rt; all.closes_on_exec() && !all.appends());
+    let neither = OpenFlags::from_word(AbiKind::Ia32, 3);
+    assert!(rt; neither.asks_write() && !neither.can_read() && !neither.can_write());
+    let given = OpenFlags::from_word(AbiKind::Ia32, 0o6001);
+    let kept = all.status_flags().with_status(given);
+    assert_eq!(rt; kept.to_word(AbiKind::Ia32), 0o6002);
+    Ok(())
+}
+
+#[test]
+fn lists_grow_at_their_end(rt: HostRuntime) -> Result<(), Fail> {
+    let mut list = ByteList::new(rt.alloc());
+    list.push(7)?;
+    list.push(8)?;
+    assert_eq!(rt; list.len(), 2);
+    assert_eq!(rt; list.as_slice()[1], 8);
+    let copy = NameText::from_slice(rt.alloc(), list.as_slice())?;
+    assert_eq!(rt; copy.as_slice()[0], 7);
     Ok(())
 }

@@ -4,3 +4,4 @@ pub mod Limits
 pub mod Usages
 pub mod State
 pub mod Operations
+pub mod Items

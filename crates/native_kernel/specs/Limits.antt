@@ -1,5 +1,5 @@
 -- The limits and what each call does with them.
-use Rattle.std.specs.Prelude.{replicate, ◌^◌, ◌-◌, ℕ, Bool, not, ◌&&◌, ◌==◌, nat_lt, Result, Ok, ⊤, slice_get, slice_set, ok_or}
+use Rattle.std.specs.Prelude.{replicate, ◌^◌, ◌-◌, ℕ, Bool, not, ◌&&◌, ◌==◌, nat_lt, Option, Some, None, Result, Ok, ⊤, slice_get, slice_set, ok_or}
 use Rattle.kernel_values.specs.Outcome.{◌>>=◌, ◌>>◌, refused_if, settled}
 use Rattle.kernel_values.specs.declared.errno.Errno.{Errno}
 use Rattle.kernel_values.specs.declared.errno.Errno.TheVariants.{InvalidArgument, NotPermitted}
@@ -9,6 +9,14 @@ use Rattle.native_kernel.specs.declared.state.Limits.{Limits}
 -- resources are 0 to 15
 abbrev pub held_limit : Limits → ℕ → Result Limit Errno
 held_limit l resource = ok_or (slice_get l.held resource) InvalidArgument
+
+abbrev pub soft_of : Option Limit → ℕ
+soft_of (Some held) = held.soft
+soft_of None = 0
+
+-- the limit that holds, 0 for a number that there isn't
+abbrev pub soft_limit : Limits → ℕ → ℕ
+soft_limit l resource = soft_of (slice_get l.held resource)
 
 abbrev pub limit : Limits → ℕ → Result Limit Errno × Limits
 limit l resource = settled l (do

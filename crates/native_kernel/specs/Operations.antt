@@ -1,20 +1,31 @@
 -- One definition for each call of the kernel: its answer, and the state after it. A row opens none.
-use Rattle.std.specs.Prelude.{Bool, ℕ, ℤ, Some, None, Result, ⊤}
+use Rattle.std.specs.Prelude.{Bool, ℕ, ℤ, negsuc, List, Some, None, Result, ⊤}
 use Rattle.kernel_values.specs.declared.errno.Errno.{Errno}
 use Rattle.kernel_values.specs.declared.times.Limit.{Limit}
 use Rattle.kernel_values.specs.declared.times.Usage.{Usage}
 use Rattle.kernel_values.specs.declared.times.TimeSpec.{TimeSpec}
 use Rattle.kernel_values.specs.declared.identity.Credentials.{Credentials}
+use Rattle.kernel_values.specs.declared.open_flags.OpenFlags.{OpenFlags}
+use Rattle.kernel_values.specs.Times.{time_of}
+use Rattle.file_store.specs.declared.state.Maker.{Maker}
+use Rattle.file_store.specs.declared.state.Place.{Place}
+use Rattle.file_store.specs.Closing as closing
+use Rattle.file_store.specs.Descriptors as descriptors
+use Rattle.file_store.specs.Image as image
+use Rattle.file_store.specs.Image.{fresh_files}
+use Rattle.file_store.specs.Opening as opening
+use Rattle.file_store.specs.Transfers as transfers
+use Rattle.file_store.specs.Working as working
 use Rattle.native_kernel.specs.declared.state.Kernel.{Kernel}
-use Rattle.native_kernel.specs.declared.state.End.{End}
+use Rattle.kernel_values.specs.declared.process_end.End.{End}
 use Rattle.native_kernel.specs.declared.state.Identity.{Identity}
 use Rattle.native_kernel.specs.declared.state.Process.{Process}
 use Rattle.native_kernel.specs.declared.state.Slept.{Slept}
 use Rattle.native_kernel.specs.Clocks as clocks
 use Rattle.native_kernel.specs.Limits as limits
 use Rattle.native_kernel.specs.Usages as usages
-use Rattle.native_kernel.specs.Limits.{starting_limits}
-use Rattle.native_kernel.specs.State.{on_clocks, on_limits}
+use Rattle.native_kernel.specs.Limits.{soft_limit, starting_limits}
+use Rattle.native_kernel.specs.State.{on_clocks, on_files, on_limits}
 
 unfoldable pub clock : Kernel → ℤ → Result ℕ Errno × Kernel
 clock k id = on_clocks k (clocks.clock k.clocks id)
@@ -42,8 +53,69 @@ usage k who = (usages.usage k.process.usage who, k)
 unfoldable pub credentials : Kernel → Credentials
 credentials k = record { pid = k.process.pid; uid = k.process.uid; gid = k.process.gid }
 
+-- a process ends: its descriptors are closed, ascending
 unfoldable pub finish : Kernel → End → Kernel
-finish k end = record k { ended = Some end }
+finish k end = record k { files = closing.all_closed k.files; ended = Some end }
+
+-- the soft limit of descriptors, RLIMIT_NOFILE
+unfoldable pub most_descriptors : Kernel → ℕ
+most_descriptors k = soft_limit k.limits 7
+
+-- who makes a file, and when: the owner of the process, and the real clock
+unfoldable pub maker : Kernel → Maker
+maker k = record { uid = k.process.uid; gid = k.process.gid; time = time_of k.clocks.real }
+
+unfoldable pub can_use : Kernel → ℤ → Bool → Bool → Bool
+can_use k fd read write = descriptors.can_use k.files fd read write
+
+unfoldable pub open_path : Kernel → ℤ → List ℕ → OpenFlags → ℕ → Result ℕ Errno × Kernel
+open_path k from path flags mode = on_files k (opening.open_path k.files (most_descriptors k) (maker k) from path flags mode)
+
+unfoldable pub close : Kernel → ℤ → Result ⊤ Errno × Kernel
+close k fd = on_files k (descriptors.close k.files fd)
+
+unfoldable pub read : Kernel → ℤ → ℕ → ℕ → Place → Result (List ℕ) Errno × Kernel
+read k fd wanted room place = on_files k (transfers.read k.files fd wanted room place)
+
+unfoldable pub write : Kernel → ℤ → ℕ → List ℕ → Place → Result ℕ Errno × Kernel
+write k fd wanted piece place = on_files k (transfers.write k.files (time_of k.clocks.real) fd wanted piece place)
+
+unfoldable pub seek : Kernel → ℤ → ℤ → ℕ → Result ℤ Errno × Kernel
+seek k fd offset whence = on_files k (descriptors.seek k.files fd offset whence)
+
+unfoldable pub duplicate : Kernel → ℤ → ℤ → Bool → Result ℕ Errno × Kernel
+duplicate k fd least cloexec = on_files k (descriptors.duplicate k.files (most_descriptors k) fd least cloexec)
+
+unfoldable pub duplicate_to : Kernel → ℤ → ℤ → ℕ → Bool → Result ℕ Errno × Kernel
+duplicate_to k fd new flags three = on_files k (descriptors.duplicate_to k.files (most_descriptors k) fd new flags three)
+
+unfoldable pub fd_flags : Kernel → ℤ → Result ℕ Errno × Kernel
+fd_flags k fd = on_files k (descriptors.fd_flags k.files fd)
+
+unfoldable pub set_fd_flags : Kernel → ℤ → ℕ → Result ⊤ Errno × Kernel
+set_fd_flags k fd word = on_files k (descriptors.set_fd_flags k.files fd word)
+
+unfoldable pub open_flags : Kernel → ℤ → Result OpenFlags Errno × Kernel
+open_flags k fd = on_files k (descriptors.open_flags k.files fd)
+
+unfoldable pub set_open_flags : Kernel → ℤ → OpenFlags → Result ⊤ Errno × Kernel
+set_open_flags k fd flags = on_files k (descriptors.set_open_flags k.files fd flags)
+
+unfoldable pub change_dir : Kernel → List ℕ → Result ⊤ Errno × Kernel
+change_dir k path = on_files k (working.change_directory k.files (negsuc 99) path)
+
+unfoldable pub current_dir : Kernel → ℕ → Result (List ℕ) Errno
+current_dir k size = working.current_directory k.files size
+
+-- what lines of the image make
+unfoldable pub image_directory : Kernel → List ℕ → ℕ → Result ⊤ Errno × Kernel
+image_directory k path inode = on_files k (image.image_directory k.files path inode)
+
+unfoldable pub image_file : Kernel → List ℕ → ℕ → ℕ → Result ⊤ Errno × Kernel
+image_file k path inode size = on_files k (image.image_file k.files path inode size)
+
+unfoldable pub image_bytes : Kernel → List ℕ → ℕ → List ℕ → Result ⊤ Errno × Kernel
+image_bytes k path offset bytes = on_files k (image.image_bytes k.files path offset bytes)
 
 abbrev pub process_of : Identity → Process
 process_of i = record { pid = i.pid; uid = i.uid; gid = i.gid; privileged = i.privileged; usage = i.usage }
@@ -54,6 +126,7 @@ started i = record {
   process = process_of i;
   clocks = record { real = i.real; monotonic = i.monotonic };
   limits = starting_limits;
+  files = fresh_files;
   ended = None;
 }
 

@@ -1,5 +1,5 @@
 -- What a process has used.
-use Rattle.std.specs.Prelude.{ℕ, zero, suc, ℤ, pos, negsuc, replicate, Result, Ok, Err}
+use Rattle.std.specs.Prelude.{zero, suc, ℤ, pos, negsuc, replicate, Result, Ok, Err}
 use Rattle.kernel_values.specs.declared.errno.Errno.{Errno}
 use Rattle.kernel_values.specs.declared.errno.Errno.TheVariants.{InvalidArgument}
 use Rattle.kernel_values.specs.declared.times.Usage.{Usage}

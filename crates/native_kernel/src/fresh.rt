@@ -6,6 +6,7 @@ ghost use Rattle.native_kernel.specs.Operations.{started, with_clocks, with_proc
 
 use crate::limits::OPEN_FILES;
 use crate::state::{Clocks, Identity, Kernel, Limits, Process};
+use file_store::Files;
 use kernel_values::{Limit, OutOfMemory};
 use std::alloc::Global;
 
@@ -32,7 +33,7 @@ impl Limits {
 impl Kernel {
     /// The state at the start.
     #[tactic(auto, unfolding(crate::specs::Operations::started))]
-    pub fn new(_alloc: Global, identity: &Identity) -> Result<Kernel, OutOfMemory>
+    pub fn new(alloc: Global, identity: &Identity) -> Result<Kernel, OutOfMemory>
         requires real_in_range { identity.now.real < 2 ^ 62 }
         requires monotonic_in_range { identity.now.monotonic < 2 ^ 62 }
         ensures { IfOk result (λ k. k ≡ started identity.now) }
@@ -50,6 +51,7 @@ impl Kernel {
                 monotonic: identity.monotonic,
             },
             limits: Limits::starting(),
+            files: Files::new(alloc)?,
             ended: None,
         })
     }

@@ -4,8 +4,8 @@ ghost use Rattle.std.specs.Prelude.{◌≡◌};
 ghost use Rattle.kernel_values.specs.Outcome.{GivesAlways};
 ghost use Rattle.native_kernel.specs.Operations.{credentials, finish, usage};
 
-use crate::state::{End, Kernel};
-use kernel_values::{Answer, Credentials, Errno, KernelFault, Usage};
+use crate::state::Kernel;
+use kernel_values::{Answer, Credentials, End, Errno, KernelFault, Usage};
 
 impl Kernel {
     /// The numbers of the process, its user and its group.
@@ -41,11 +41,12 @@ impl Kernel {
         self.ended
     }
 
-    /// Ends the process.
+    /// Ends the process, and closes its descriptors in ascending order. It takes no memory.
     #[tactic(auto, unfolding(crate::specs::Operations::finish))]
     pub fn finish(&mut self, end: End)
         ensures { self.new ≡ finish self.old end }
     {
+        self.files.close_all();
         self.ended = Some(end);
     }
 }

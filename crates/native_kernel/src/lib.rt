@@ -2,15 +2,21 @@
 #![tactic(auto)]
 
 mod clocks;
+mod files;
 mod fresh;
 mod identity;
+mod items;
 mod kernel;
 mod limits;
 mod state;
 
 pub use clocks::{CLOCK_END, CLOCK_MONOTONIC, CLOCK_REALTIME, ClockId};
+pub use file_store::Place;
+pub use items::StateCursor;
 pub use limits::{MOST_OPEN_FILES, OPEN_FILES};
-pub use state::{Clocks, End, Identity, Kernel, Limits, Process, Slept};
+pub use state::{Clocks, Identity, Kernel, Limits, Process, Slept};
 
+#[cfg(test)]
+mod file_tests;
 #[cfg(test)]
 mod tests;

@@ -2,7 +2,7 @@
 
 ghost use Rattle.std.specs.Prelude.{◌≡◌};
 ghost use Rattle.kernel_values.specs.Outcome.{GivesAlways};
-ghost use Rattle.native_kernel.specs.Limits.{limit, set_limit};
+ghost use Rattle.native_kernel.specs.Limits.{limit, set_limit, soft_limit};
 
 use crate::state::Limits;
 use kernel_values::{Answer, Errno, KernelFault, Limit};
@@ -20,6 +20,16 @@ impl Limits {
         match self.held.get(resource as usize) {
             Some(held) => Ok(*held),
             None => Err(KernelFault::Errno(Errno::InvalidArgument)),
+        }
+    }
+
+    /// The limit that holds, 0 for a number that there isn't.
+    pub(crate) fn soft(&self, resource: u32) -> u64
+        ensures { result ≡ soft_limit self.now resource }
+    {
+        match self.held.get(resource as usize) {
+            Some(held) => held.soft,
+            None => 0,
         }
     }
 

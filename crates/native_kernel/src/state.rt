@@ -3,7 +3,8 @@
 ghost use Rattle.std.specs.Prelude.{◌<◌, ◌^◌};
 ghost use Rattle.native_kernel.specs.ClockState.{ClockState};
 
-use kernel_values::{Limit, TimeSpec, Usage};
+use file_store::Files;
+use kernel_values::{End, Limit, TimeSpec, Usage};
 use std::marker::Model;
 
 /// What a new process and its kernel are made of.
@@ -30,15 +31,6 @@ pub struct Process {
     /// Whether it may set the clock and raise hard limits.
     pub privileged: bool,
     pub usage: Usage,
-}
-
-/// How a process ended.
-#[derive(Clone, Copy, Debug, PartialEq, Eq)]
-pub enum End {
-    /// By exit or exit_group, with the low 8 bits of their code.
-    Exit(u8),
-    /// By a signal with this number.
-    Signal(u32),
 }
 
 /// How a sleep ended.
@@ -78,6 +70,8 @@ pub struct Kernel {
     pub process: Process,
     pub clocks: Clocks,
     pub limits: Limits,
+    /// Files, directories and descriptors.
+    pub files: Files,
     /// How the process ended, if it has.
     pub ended: Option<End>,
 }

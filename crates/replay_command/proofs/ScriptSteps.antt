@@ -1,6 +1,7 @@
 -- What is left of a script after each call of its reader.
-use Rattle.std.proofs.Common.{◌≡◌, ℕ, List, [], ◌++◌, refl, sym, ap, ◌∙◌, append_assoc}
-use Rattle.std.specs.Prelude.{Option, Some, None, Ok}
+use Rattle.std.proofs.Common.{◌≡◌, ℕ, ◌+◌, List, [], ◌++◌, length, refl, sym, ap, ◌∙◌, append_assoc, arith}
+use Rattle.std.proofs.lemmas.List.{length-append}
+use Rattle.std.specs.Prelude.{Option, Some, None, Result, Ok}
 use Rattle.io_edge.specs.Told.{put_back, IsAtEnd}
 use Rattle.script_reader.specs.declared.fault.LineCause.{LineCause}
 use Rattle.script_reader.specs.declared.seen.Seen.{Seen}
@@ -8,7 +9,9 @@ use Rattle.script_reader.specs.Grammar.{Line}
 use Rattle.script_reader.specs.Ending.{Ending, Whole, ScriptText, ends, with_record}
 use Rattle.script_reader.specs.Ending as endings
 use Rattle.script_reader.specs.Script.{Next, Given, BadLine, TooLarge, AtEnd, next_from, next_with, ending_at, script_of, script_from, script_by}
-use Rattle.script_reader.specs.Reads.{ScriptState, new_script, next_in, script_left, IsBadIn}
+use Rattle.script_reader.specs.declared.fault.ScriptFault.{ScriptFault}
+use Rattle.script_reader.specs.declared.record.Record.{Record}
+use Rattle.script_reader.specs.Reads.{ScriptState, new_script, next_in, script_left, read_count, TakesFew, IsBadIn}
 use Rattle.script_reader.specs.Reads as reads
 use Rattle.script_reader.proofs.ScriptLaws.{next_from-append, script_from-next}
 use Rattle.replay_command.specs.Run.{Outcome}
@@ -31,6 +34,7 @@ put_back_twice (Some bytes) a b = ap (λ (xs : List ℕ). Some xs) (sym (append_
 pub record HasTaken (before after : Option (List ℕ)) (script : ScriptState) (from : ScriptText → Outcome) (whole : List ℕ → Outcome) : Type 0 where
   pub piece : List ℕ
   pub taken : before ≡ put_back piece after
+  pub size : length piece ≡ read_count script
   pub so_far : (more : List ℕ) → from (script_left script more) ≡ whole (piece ++ more)
 
 pub taken_none : (left : Option (List ℕ)) (script : ScriptState) (from : ScriptText → Outcome) (whole : List ℕ → Outcome) → script ≡ new_script → ((bytes : List ℕ) → from (script_of bytes) ≡ whole bytes) → HasTaken left left script from whole
@@ -38,25 +42,25 @@ unfolding script_of
 taken_none left script from whole e h = record {
   piece = [];
   taken = put_back_none left;
+  size = rw e refl;
   so_far = λ more. rw e (h more);
 }
 
-pub is_read : (before after : Option (List ℕ)) (script : ScriptState) (from : ScriptText → Outcome) (whole : List ℕ → Outcome) → HasTaken before after script from whole → IsRead before after
-is_read before after script from whole h = (h.piece, h.taken)
-
 pub read_none : (before after : Option (List ℕ)) → after ≡ before → IsRead before after
-read_none before after e = ([], put_back_none before ∙ ap (put_back []) (sym e))
+read_none before after e = ([], put_back_none before ∙ ap (put_back []) (sym e), omega arith)
 
 -- one call more
-pub read_more : (before mid after : Option (List ℕ)) (script : ScriptState) (from : ScriptText → Outcome) (whole : List ℕ → Outcome) (piece : List ℕ) → HasTaken before mid script from whole → mid ≡ put_back piece after → IsRead before after
-read_more before mid after script from whole piece h e = (h.piece ++ piece, h.taken ∙ ap (put_back h.piece) e ∙ put_back_twice after h.piece piece)
+pub read_more : (before mid after : Option (List ℕ)) (script : ScriptState) (from : ScriptText → Outcome) (whole : List ℕ → Outcome) (piece : List ℕ) (answer : Result (Option Record) ScriptFault) (count : ℕ) → HasTaken before mid script from whole → mid ≡ put_back piece after
+    → TakesFew (read_count script) (length piece) answer count → IsRead before after
+read_more before mid after script from whole piece answer count h e few = (h.piece ++ piece, h.taken ∙ ap (put_back h.piece) e ∙ put_back_twice after h.piece piece, omega (arith, length-append h.piece piece, h.size, few.most))
 
 -- a call that gave a record
 pub taken_record : (before mid after : Option (List ℕ)) (old new : ScriptState) (line : Line) (from then : ScriptText → Outcome) (whole : List ℕ → Outcome) (piece : List ℕ) → HasTaken before mid old from whole → mid ≡ put_back piece after
-    → next_in old piece ≡ Given line new.seen new.count new.ahead → ((text : ScriptText) → from (with_record line text) ≡ then text) → HasTaken before after new then whole
-taken_record before mid after old new line from then whole piece h e given turn = record {
+    → next_in old piece ≡ Given line new.seen new.count new.ahead → read_count new ≡ read_count old + length piece → ((text : ScriptText) → from (with_record line text) ≡ then text) → HasTaken before after new then whole
+taken_record before mid after old new line from then whole piece h e given size turn = record {
   piece = h.piece ++ piece;
   taken = h.taken ∙ ap (put_back h.piece) e ∙ put_back_twice after h.piece piece;
+  size = omega (arith, length-append h.piece piece, h.size, size);
   so_far = λ more.
       let left : script_left old (piece ++ more) ≡ with_record line (script_left new more) = left_by old piece more ∙ ap (λ (n : Next). script_by (next_with n more)) given in
       sym (turn (script_left new more)) ∙ ap from (sym left) ∙ h.so_far (piece ++ more) ∙ ap whole (sym (append_assoc h.piece piece more));

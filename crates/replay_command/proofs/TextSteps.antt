@@ -1,8 +1,10 @@
 -- One turn and the end of each loop that writes text.
-use Rattle.std.proofs.Common.{◌≡◌, ℕ, ◌+◌, ◌<◌, ◌≤◌, List, [], ◌∷◌, ◌++◌, length, get_or, drop, refl, sym, ap, ◌∙◌, append_assoc}
-use Rattle.std.proofs.lemmas.List.{at_drop_more, at_drop_all, drop_more, drop_all, append-nil}
-use Rattle.kernel_values.specs.declared.times.Limit.{Limit}
-use Rattle.replay_command.specs.Text.{word_text, words_text, change_text, changes_text, limit_text, limits_from}
+use Rattle.std.proofs.Common.{◌≡◌, ℕ, ◌+◌, ◌<◌, ◌≤◌, List, [], ◌∷◌, ◌++◌, ◌||◌, not, Bool, length, get_or, drop, refl, sym, ap, ◌∙◌, append_assoc}
+use Rattle.std.proofs.lemmas.List.{at_drop_more, at_drop_all, append-nil}
+use Rattle.kernel_values.specs.declared.abi.AbiKind.{AbiKind}
+use Rattle.kernel_values.specs.declared.items.StateItem.{StateItem}
+use Rattle.replay_command.specs.Text.{word_text, words_text, change_text, changes_text, hex_text}
+use Rattle.replay_command.specs.StateText.{is_front, item_text, items_text, numbers_text, peak_before}
 
 pub words_go : (ws : List ℕ) (i d : ℕ) (out spaced after all : List ℕ) → i < length ws → spaced ≡ out ++ 32 ∷ [] → after ≡ spaced ++ word_text (get_or ws i d)
     → out ++ words_text (drop i ws) ≡ all → after ++ words_text (drop (i + 1) ws) ≡ all
@@ -24,22 +26,24 @@ pub changes_end : (out all : List ℕ) (runs : List (ℕ × List ℕ)) → runs 
 unfolding changes_text
 changes_end out all runs e so_far = sym (append-nil out) ∙ (rw e at so_far)
 
-pub limits_go : (helds starts : List Limit) (i : ℕ) (held start d : Limit) (out after all : List ℕ) → i < length helds → i < length starts → held ≡ get_or helds i d → start ≡ get_or starts i d → after ≡ out ++ limit_text i held start
-    → out ++ limits_from i (drop i helds) (drop i starts) ≡ all → after ++ limits_from (i + 1) (drop (i + 1) helds) (drop (i + 1) starts) ≡ all
-unfolding limits_from
-limits_go helds starts i held start d out after all inside there same other f so_far =
-    let line : after ≡ out ++ limit_text i (get_or helds i d) (get_or starts i d) = f ∙ ap (λ (h : Limit). out ++ limit_text i h start) same ∙ ap (λ (s : Limit). out ++ limit_text i (get_or helds i d) s) other in
-    let turn : limits_from i (drop i helds) (drop i starts) ≡ limit_text i (get_or helds i d) (get_or starts i d) ++ limits_from (i + 1) (drop (i + 1) helds) (drop (i + 1) starts) = rw (drop_more helds i d inside, drop_more starts i d there) refl in
-    rw line (append_assoc out (limit_text i (get_or helds i d) (get_or starts i d)) (limits_from (i + 1) (drop (i + 1) helds) (drop (i + 1) starts)) ∙ ap (λ (xs : List ℕ). out ++ xs) (sym turn) ∙ so_far)
+pub numbers_go : (ns : List ℕ) (i d : ℕ) (out spaced after all : List ℕ) → i < length ns → spaced ≡ out ++ 32 ∷ [] → after ≡ spaced ++ hex_text (get_or ns i d)
+    → out ++ numbers_text (drop i ns) ≡ all → after ++ numbers_text (drop (i + 1) ns) ≡ all
+unfolding numbers_text
+numbers_go ns i d out spaced after all h e f so_far =
+    let turn : numbers_text (drop i ns) ≡ 32 ∷ (hex_text (get_or ns i d) ++ numbers_text (drop (i + 1) ns)) = at_drop_more numbers_text ns i d h in
+    rw (f, e) (append_assoc (out ++ 32 ∷ []) (hex_text (get_or ns i d)) (numbers_text (drop (i + 1) ns)) ∙ append_assoc out (32 ∷ []) (hex_text (get_or ns i d) ++ numbers_text (drop (i + 1) ns)) ∙ ap (λ (xs : List ℕ). out ++ xs) (sym turn) ∙ so_far)
 
-pub limits_end : (helds starts : List Limit) (i : ℕ) (out all : List ℕ) → length helds ≤ i → out ++ limits_from i (drop i helds) starts ≡ all → out ≡ all
-unfolding limits_from
-limits_end helds starts i out all h so_far = sym (append-nil out) ∙ (rw (drop_all i helds h) at so_far)
+pub numbers_end : (ns : List ℕ) (i : ℕ) (out all : List ℕ) → length ns ≤ i → out ++ numbers_text (drop i ns) ≡ all → out ≡ all
+unfolding numbers_text
+numbers_end ns i out all h so_far = sym (append-nil out) ∙ ap (λ (xs : List ℕ). out ++ xs) (sym (at_drop_all numbers_text ns i h)) ∙ so_far
 
-no_more : (i : ℕ) (helds : List Limit) → limits_from i helds [] ≡ []
-unfolding limits_from
-no_more i [] = refl
-no_more i (held ∷ more) = refl
+-- the line of one item, with the peak's line before it where that belongs there
+pub items_go : (abi : AbiKind) (b c : Bool) (x : StateItem) (left rest : List StateItem) (out peaked after all : List ℕ) → left ≡ x ∷ rest → c ≡ (b || not (is_front x))
+    → peaked ≡ out ++ peak_before b x → after ≡ peaked ++ item_text abi x → out ++ items_text abi b left ≡ all → after ++ items_text abi c rest ≡ all
+unfolding items_text
+items_go abi b c x left rest out peaked after all e t p a so_far =
+    rw (a, p, t) (append_assoc (out ++ peak_before b x) (item_text abi x) (items_text abi (b || not (is_front x)) rest)
+    ∙ append_assoc out (peak_before b x) (item_text abi x ++ items_text abi (b || not (is_front x)) rest) ∙ (rw e at so_far))
 
-pub limits_stop : (helds starts : List Limit) (i : ℕ) (out all : List ℕ) → length starts ≤ i → out ++ limits_from i (drop i helds) (drop i starts) ≡ all → out ≡ all
-limits_stop helds starts i out all h so_far = sym (append-nil out) ∙ (rw (drop_all i starts h, no_more i (drop i helds)) at so_far)
+pub items_end : (abi : AbiKind) (b : Bool) (left : List StateItem) (out after all : List ℕ) → left ≡ [] → after ≡ out ++ items_text abi b [] → out ++ items_text abi b left ≡ all → after ≡ all
+items_end abi b left out after all e a so_far = a ∙ (rw e at so_far)

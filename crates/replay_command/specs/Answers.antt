@@ -1,5 +1,5 @@
 -- What the statuses of a command line say.
-use Rattle.std.specs.Prelude.{◌≡◌, ◌⊎◌, ⊤, ℕ, if◌then◌else◌, List, [], ◌∷◌, take, codes, Option, Some, None}
+use Rattle.std.specs.Prelude.{◌≡◌, ◌≤◌, ◌+◌, ◌^◌, ◌⊎◌, ⊤, ℕ, if◌then◌else◌, List, [], ◌∷◌, length, take, codes, Option, Some, None}
 use Rattle.std.specs.Str.{bytes_eq}
 use Rattle.io_edge.specs.Told.{Rose, put_back, appended}
 use Rattle.replay_command.specs.declared.status.Status.{Status}
@@ -33,9 +33,9 @@ IsEnd ReadFault = ⊥
 IsEnd WriteFault = ⊥
 IsEnd OutOfMemory = ⊥
 
--- a front of what a stream had left was taken
+-- a front of what a stream had left was taken, of at most one byte more than a script has
 abbrev pub IsRead : Option (List ℕ) → Option (List ℕ) → Type 0
-IsRead before after = (taken : List ℕ) × (before ≡ put_back taken after)
+IsRead before after = (taken : List ℕ) × (before ≡ put_back taken after) × (length taken ≤ 2 ^ 28 + 1)
 
 -- the bytes that a source had left, where it tells them
 abbrev pub IsInput : Option (List ℕ) → List ℕ → Type 0

@@ -1,4 +1,5 @@
 pub mod Text
+pub mod StateText
 pub mod Machine
 pub mod Run
 pub mod Answers

@@ -1,5 +1,7 @@
 -- What a record of a script does to the machine, and what it writes.
 use Rattle.std.specs.Prelude.{◌≡◌, ℕ, ◌+◌, ◌/◌, ◌||◌, nat_le, if◌then◌else◌, Bool, false, List, [], ◌++◌, length, codes, Option, Some, None}
+use Rattle.kernel_values.specs.declared.abi.AbiKind.{AbiKind}
+use Rattle.kernel_values.specs.declared.abi.AbiKind.TheVariants.{Ia32}
 use Rattle.kernel_values.specs.declared.identity.Credentials.{Credentials}
 use Rattle.kernel_values.specs.declared.times.Usage.{Usage}
 use Rattle.user_memory.specs.Pages.{PageState, page_at, is_page, with_page, marked}
@@ -7,11 +9,11 @@ use Rattle.user_memory.specs.Memory.{is_readable, with_bytes}
 use Rattle.user_memory.specs.Changes.{changes}
 use Rattle.abi_registers.specs.declared.registers.Registers.{Registers}
 use Rattle.abi_registers.specs.Places.{all_in, kind_in, number_in}
-use Rattle.native_kernel.specs.declared.state.End.{End}
+use Rattle.kernel_values.specs.declared.process_end.End.{End}
 use Rattle.native_kernel.specs.declared.state.Identity.{Identity}
 use Rattle.native_kernel.specs.declared.state.Kernel.{Kernel}
 use Rattle.native_kernel.specs.Usages.{nothing_used}
-use Rattle.native_kernel.specs.Operations.{advanced, with_clocks, with_process}
+use Rattle.native_kernel.specs.Operations.{advanced, image_bytes, image_directory, image_file, with_clocks, with_process}
 use Rattle.call_tables.specs.declared.find.Row.{Row}
 use Rattle.call_tables.specs.Rows.{row}
 use Rattle.call_tables.specs.Names.{name}
@@ -20,7 +22,8 @@ use Rattle.compat_calls.specs.Trap.{Trapped, trapped}
 use Rattle.script_reader.specs.Grammar as lines
 use Rattle.script_reader.specs.Grammar.{Line}
 use Rattle.replay_command.specs.declared.machine.Machine.{Machine}
-use Rattle.replay_command.specs.Text.{call_text, changes_text, end_text, gone_text, state_text}
+use Rattle.replay_command.specs.Text.{call_text, changes_text, end_text, gone_text}
+use Rattle.replay_command.specs.StateText.{state_text}
 
 -- the machine afterwards, and what was written
 pub record Done : Type 0 where
@@ -42,7 +45,7 @@ event_text k registers after =
     call_text k (row_name (row (kind_in registers) (number_in registers))) (all_in after.0) ++ changes_text (changes after.1.memory 0) ++ end_text after.1.kernel.ended
 
 abbrev pub called : Machine → Registers → Trapped → Done
-called m registers after = record { machine = record { calls = m.calls + 1; world = after.1 }; text = event_text (m.calls + 1) registers after }
+called m registers after = record { machine = record m { calls = m.calls + 1; world = after.1 }; text = event_text (m.calls + 1) registers after }
 
 -- a process that has ended serves no call
 abbrev pub called_where : Machine → Registers → Option End → Done
@@ -97,18 +100,38 @@ set_page m at writable bytes =
 unfoldable pub poke : Machine → ℕ → List ℕ → Machine
 poke m at bytes = if is_readable m.world.memory at (length bytes) then with_memory m (with_bytes m.world.memory at bytes) else m
 
--- What a record does. The reader tells a page that can't be mapped, or a poke outside the pages, as a bad line.
+-- the kind of process that the script is of
+unfoldable pub set_kind : Machine → AbiKind → Machine
+set_kind m kind = record m { kind = kind }
+
+-- a directory of the image, where the path can have it
+unfoldable pub set_directory : Machine → List ℕ → ℕ → Machine
+set_directory m path inode = with_kernel m (image_directory m.world.kernel path inode).1
+
+-- a file of the image
+unfoldable pub set_file : Machine → List ℕ → ℕ → ℕ → Machine
+set_file m path inode size = with_kernel m (image_file m.world.kernel path inode size).1
+
+-- bytes in a file of the image
+unfoldable pub set_bytes : Machine → List ℕ → ℕ → List ℕ → Machine
+set_bytes m path offset bytes = with_kernel m (image_bytes m.world.kernel path offset bytes).1
+
+-- What a record does. The reader tells a page that can't be mapped, a poke outside the pages,
+-- and a name or bytes that a path can't have, as a bad line.
 abbrev pub applied : Machine → Line → Done
-applied m (lines.Header abi) = silent m
+applied m (lines.Header abi) = silent (set_kind m abi)
 applied m (lines.Clock real monotonic) = silent (set_clock m real monotonic)
 applied m (lines.Who owner privileged) = silent (set_who m owner privileged)
 applied m (lines.Usage usage) = silent (set_usage m usage)
 applied m (lines.Restorer address) = silent (set_restorer m address)
 applied m (lines.Page at writable bytes) = silent (set_page m at writable bytes)
+applied m (lines.Dir path inode) = silent (set_directory m path inode)
+applied m (lines.File path inode size) = silent (set_file m path inode size)
+applied m (lines.Bytes path offset bytes) = silent (set_bytes m path offset bytes)
 applied m (lines.Poke at bytes) = silent (poke m at bytes)
 applied m (lines.Call registers) = call m registers
 applied m (lines.Advance nanos) = silent (advance m nanos)
-applied m lines.Show = record { machine = m; text = state_text m.world.kernel }
+applied m lines.Show = record { machine = m; text = state_text m.kind m.world.kernel }
 
 -- whose process it is where a script doesn't say
 abbrev pub owner : Identity
@@ -122,9 +145,9 @@ owner = record {
   usage = nothing_used;
 }
 
--- at the start of a script
+-- at the start of a script, before its header
 unfoldable pub start : Machine
-start = record { calls = 0; world = started_world owner 0 }
+start = record { calls = 0; kind = Ia32; world = started_world owner 0 }
 
 -- what was to be done was done, and its text stands behind the others
 pub record Did (done : Done) (now : Machine) (before after : List ℕ) : Type 0 where

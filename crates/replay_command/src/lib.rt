@@ -6,6 +6,7 @@ mod command;
 mod machine;
 mod report;
 mod run;
+mod state;
 mod status;
 mod stop;
 mod stream;

@@ -2,10 +2,11 @@
 
 ghost use Rattle.std.specs.Prelude.{◌≡◌, ◌+◌, ◌^◌, ◌<◌, ◌≤◌, ◌%◌, length, IfOk, OnOk};
 
-use crate::report::{put_call, put_changes, put_end, put_gone, put_state};
+use crate::report::{put_call, put_changes, put_end, put_gone};
+use crate::state::put_state;
 use abi_registers::Registers;
 use compat_calls::{World, trap_by_kind};
-use kernel_values::{Credentials, OutOfMemory, Usage};
+use kernel_values::{AbiKind, Credentials, KernelFault, OutOfMemory, Usage};
 use native_kernel::{Identity, Process};
 use script_reader::Record;
 use std::alloc::Global;
@@ -25,13 +26,16 @@ const OWNER: Identity = Identity {
 /// The process with its kernel, and how many calls there were.
 #[derive(Drop)]
 pub struct Machine {
+    /// How many calls were run.
     pub calls: u64,
+    /// The kind of process, once a header has told it.
+    pub kind: AbiKind,
     pub world: World,
 }
 
 impl Machine {
     ghost use Rattle.script_reader.specs.Grammar.{line_of, IsInRange};
-    ghost use Rattle.replay_command.specs.Machine.{start, call, silent, poke, advance, set_clock, set_who, set_usage, set_restorer, set_page, applied, Did};
+    ghost use Rattle.replay_command.specs.Machine.{start, call, silent, poke, advance, set_bytes, set_clock, set_directory, set_file, set_kind, set_who, set_usage, set_restorer, set_page, applied, Did};
 
     /// At the start of a script.
     #[tactic(auto, unfolding(crate::specs::Machine::start))]
@@ -40,6 +44,7 @@ impl Machine {
     {
         Ok(Machine {
             calls: 0,
+            kind: AbiKind::Ia32,
             world: World::new(alloc, &OWNER, 0)?,
         })
     }
@@ -114,6 +119,64 @@ impl Machine {
         }
     }
 
+    /// The kind of process.
+    #[tactic(auto, unfolding(crate::specs::Machine::set_kind))]
+    fn set_kind(&mut self, kind: AbiKind)
+        ensures machine { self.new ≡ set_kind self.old kind }
+        ensures calls { self.new.calls ≡ self.old.calls }
+    {
+        self.kind = kind;
+    }
+
+    /// A directory of the image, where the path can have it.
+    #[tactic(auto, unfolding(crate::specs::Machine::set_directory))]
+    fn set_directory(&mut self, alloc: Global, path: &[u8], inode: u64) -> Result<(), OutOfMemory>
+        ensures machine { OnOk result (self.new ≡ set_directory self.old path.now inode) }
+        ensures calls { self.new.calls ≡ self.old.calls }
+    {
+        match self.world.kernel.image_directory(alloc, path, inode) {
+            Err(KernelFault::OutOfMemory) => Err(OutOfMemory),
+            Ok(()) | Err(KernelFault::Errno(_)) => Ok(()),
+        }
+    }
+
+    /// A file of the image, of zeros, where the path can have it.
+    #[tactic(auto, unfolding(crate::specs::Machine::set_file))]
+    fn set_file(
+        &mut self,
+        alloc: Global,
+        path: &[u8],
+        inode: u64,
+        size: u64,
+    ) -> Result<(), OutOfMemory>
+        requires { size ≤ 2 ^ 40 }
+        ensures machine { OnOk result (self.new ≡ set_file self.old path.now inode size) }
+        ensures calls { self.new.calls ≡ self.old.calls }
+    {
+        match self.world.kernel.image_file(alloc, path, inode, size) {
+            Err(KernelFault::OutOfMemory) => Err(OutOfMemory),
+            Ok(()) | Err(KernelFault::Errno(_)) => Ok(()),
+        }
+    }
+
+    /// Bytes in a file of the image.
+    #[tactic(auto, unfolding(crate::specs::Machine::set_bytes))]
+    fn set_bytes(
+        &mut self,
+        alloc: Global,
+        path: &[u8],
+        offset: u64,
+        bytes: &[u8],
+    ) -> Result<(), OutOfMemory>
+        ensures machine { OnOk result (self.new ≡ set_bytes self.old path.now offset bytes.now) }
+        ensures calls { self.new.calls ≡ self.old.calls }
+    {
+        match self.world.kernel.image_bytes(alloc, path, offset, bytes) {
+            Err(KernelFault::OutOfMemory) => Err(OutOfMemory),
+            Ok(()) | Err(KernelFault::Errno(_)) => Ok(()),
+        }
+    }
+
     /// Bytes in mapped pages, whatever their rights.
     #[tactic(auto, unfolding(crate::specs::Machine::poke))]
     fn poke(&mut self, at: u32, bytes: &[u8])
@@ -168,7 +231,7 @@ impl Machine {
         ensures calls { self.new.calls ≤ self.old.calls + 1 }
     {
         match entry {
-            Record::Header { .. } => {}
+            Record::Header { abi } => self.set_kind(abi),
             Record::Clock { real, monotonic } => self.set_clock(real, monotonic),
             Record::Who { owner, privileged } => self.set_who(&owner, privileged),
             Record::Usage { usage } => self.set_usage(&usage),
@@ -178,10 +241,22 @@ impl Machine {
                 writable,
                 bytes,
             } => self.set_page(at, writable, &bytes)?,
+            Record::Dir { path, inode } => self.set_directory(alloc, path.as_slice(), inode)?,
+            Record::File { path, inode, size } => self.set_file(
+                alloc,
+                path.as_slice(),
+                inode,
+                size,
+            )?,
+            Record::Bytes {
+                path,
+                offset,
+                bytes,
+            } => self.set_bytes(alloc, path.as_slice(), offset, bytes.as_slice())?,
             Record::Poke { at, bytes } => self.poke(at, &bytes),
             Record::Call { registers } => self.call(alloc, out, &registers)?,
             Record::Advance { nanos } => self.advance(nanos),
-            Record::Show => put_state(alloc, out, &self.world.kernel)?,
+            Record::Show => put_state(alloc, out, self.kind, &self.world.kernel)?,
         }
         Ok(())
     }

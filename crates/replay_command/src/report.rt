@@ -6,13 +6,15 @@ ghost use Rattle.user_memory.specs.Changes.{changes};
 ghost use Rattle.abi_registers.specs.Places.{all_in, kind_in, number_in};
 ghost use Rattle.call_tables.specs.Rows.{row};
 ghost use Rattle.replay_command.specs.Machine.{row_name};
-ghost use Rattle.replay_command.specs.Text.{call_text, change_text, changes_text, end_number, end_text, end_word, ended_text, gone_text, hex_text, limit_text, limits_from, limits_text, clocks_text, peak_line, root_line, end_line, state_head, state_text, bad_text, ok_text};
+ghost use Rattle.replay_command.specs.Text.{call_text, change_text, changes_text, end_text, gone_text, hex_text, end_line, bad_text, ok_text};
+ghost use Rattle.replay_command.specs.StateText.{state_text};
 
+use crate::state::put_state;
 use crate::text::{put, put_bytes, put_decimal, put_hex, put_word, put_words};
 use abi_registers::Registers;
 use call_tables::find_row;
-use kernel_values::{Limit, OutOfMemory};
-use native_kernel::{Clocks, End, Kernel, Limits};
+use kernel_values::{AbiKind, End, OutOfMemory};
+use native_kernel::Kernel;
 use std::alloc::Global;
 use user_memory::{Change, UserMemory};
 
@@ -53,38 +55,6 @@ pub fn put_end(alloc: Global, out: &mut Vec<u8>, ended: Option<End>) -> Result<(
         None => Ok(()),
         Some(End::Exit(code)) => put_line(alloc, out, b"exit ", u64::from(code)),
         Some(End::Signal(signal)) => put_line(alloc, out, b"killed ", u64::from(signal)),
-    }
-}
-
-#[tactic(auto, unfolding(crate::specs::Text::end_word))]
-fn end_word(end: End) -> &'static [u8]
-    ensures { result.now ≡ end_word end }
-{
-    match end {
-        End::Exit(_) => b"exit ",
-        End::Signal(_) => b"signal ",
-    }
-}
-
-fn end_number(end: End) -> u64
-    ensures { result ≡ end_number end }
-{
-    match end {
-        End::Exit(code) => u64::from(code),
-        End::Signal(signal) => u64::from(signal),
-    }
-}
-
-/// How the process ended, in the state.
-fn put_ended(alloc: Global, out: &mut Vec<u8>, ended: Option<End>) -> Result<(), OutOfMemory>
-    ensures { OnOk result (out.new.items ≡ out.old.items ++ ended_text ended) }
-{
-    match ended {
-        None => Ok(()),
-        Some(end) => {
-            put(out, b"ended ")?;
-            put_line(alloc, out, end_word(end), end_number(end))
-        }
     }
 }
 
@@ -139,27 +109,6 @@ pub fn put_changes(alloc: Global, out: &mut Vec<u8>, memory: &UserMemory) -> Res
     Ok(())
 }
 
-#[tactic(auto, unfolding(crate::specs::Text::state_head))]
-fn head() -> &'static [u8]
-    ensures { result.now ≡ state_head }
-{
-    b"state\nclock "
-}
-
-#[tactic(auto, unfolding(crate::specs::Text::peak_line))]
-fn peak_line() -> &'static [u8]
-    ensures { result.now ≡ peak_line }
-{
-    b"peak 0\n"
-}
-
-#[tactic(auto, unfolding(crate::specs::Text::root_line))]
-fn root_line() -> &'static [u8]
-    ensures { result.now ≡ root_line }
-{
-    b"node 2 d 0 41ed 0 0 0.0 0.0 0.0\n"
-}
-
 #[tactic(auto, unfolding(crate::specs::Text::end_line))]
 fn end_line() -> &'static [u8]
     ensures { result.now ≡ end_line }
@@ -167,80 +116,16 @@ fn end_line() -> &'static [u8]
     b"end\n"
 }
 
-/// The line of a limit, where it isn't as at the start.
-fn put_limit(
-    alloc: Global,
-    out: &mut Vec<u8>,
-    resource: u64,
-    held: &Limit,
-    start: &Limit,
-) -> Result<(), OutOfMemory>
-    ensures { OnOk result (out.new.items ≡ out.old.items ++ limit_text resource held.now start.now) }
-{
-    if held.soft == start.soft && held.hard == start.hard {
-        return Ok(());
-    }
-    put(out, b"limit ")?;
-    put_hex(alloc, out, resource)?;
-    put(out, b" ")?;
-    put_hex(alloc, out, held.soft)?;
-    put(out, b" ")?;
-    put_hex(alloc, out, held.hard)?;
-    put(out, b"\n")
-}
-
-/// A line for each limit that isn't as at the start, ascending.
-fn put_limits(
-    alloc: Global,
-    out: &mut Vec<u8>,
-    held: &[Limit],
-    starting: &[Limit],
-) -> Result<(), OutOfMemory>
-    ensures { OnOk result (out.new.items ≡ out.old.items ++ limits_from 0 held.now starting.now) }
-{
-    for (resource, limit) in held.iter().enumerate() {
-        let Some(start) = starting.get(resource) else {
-            return Ok(());
-        };
-        put_limit(alloc, out, resource as u64, limit, start)?;
-    }
-    Ok(())
-}
-
-/// A line for each limit of a process that isn't as at the start.
-fn put_changed_limits(alloc: Global, out: &mut Vec<u8>, limits: &Limits) -> Result<(), OutOfMemory>
-    ensures { OnOk result (out.new.items ≡ out.old.items ++ limits_text limits.now) }
-{
-    put_limits(alloc, out, &limits.held, &Limits::starting().held)
-}
-
-/// The first lines of the state, with both clocks.
-fn put_clocks(alloc: Global, out: &mut Vec<u8>, clocks: &Clocks) -> Result<(), OutOfMemory>
-    ensures { OnOk result (out.new.items ≡ out.old.items ++ clocks_text clocks.now) }
-{
-    put(out, head())?;
-    put_hex(alloc, out, clocks.real())?;
-    put(out, b" ")?;
-    put_hex(alloc, out, clocks.monotonic())?;
-    put(out, b"\n")
-}
-
-/// The state.
-pub fn put_state(alloc: Global, out: &mut Vec<u8>, kernel: &Kernel) -> Result<(), OutOfMemory>
-    ensures { OnOk result (out.new.items ≡ out.old.items ++ state_text kernel.now) }
-{
-    put_clocks(alloc, out, &kernel.clocks)?;
-    put_ended(alloc, out, kernel.ended())?;
-    put(out, peak_line())?;
-    put_changed_limits(alloc, out, &kernel.limits)?;
-    put(out, root_line())
-}
-
 /// The state, and the end of the report.
-pub fn put_whole(alloc: Global, out: &mut Vec<u8>, kernel: &Kernel) -> Result<(), OutOfMemory>
-    ensures { OnOk result (out.new.items ≡ out.old.items ++ (state_text kernel.now ++ end_line)) }
+pub fn put_whole(
+    alloc: Global,
+    out: &mut Vec<u8>,
+    abi: AbiKind,
+    kernel: &Kernel,
+) -> Result<(), OutOfMemory>
+    ensures { OnOk result (out.new.items ≡ out.old.items ++ (state_text abi kernel.now ++ end_line)) }
 {
-    put_state(alloc, out, kernel)?;
+    put_state(alloc, out, abi, kernel)?;
     put(out, end_line())
 }
 

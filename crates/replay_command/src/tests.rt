@@ -1,47 +1,85 @@
+//! What the commands write for scripts, and how they end. A helper says nothing of what it gives: so the proof of a test
+//! knows nothing of the machine's state, however large that is.
+
 use super::*;
 use io_edge::{MemorySink, MemorySource, Words};
 use std::alloc::Global;
 use std::process::Abort;
 use std::test::Fail;
 
-fn words(alloc: Global, all: &[&[u8]]) -> Option<Words> {
+/// How a command ends, and what it writes to a sink whose writes with these numbers fail.
+fn answer(
+    alloc: Global,
+    command: &[&[u8]],
+    mut source: MemorySource,
+    failing: Vec<u64>,
+) -> Result<(Status, Vec<u8>), Fail> {
     let mut words = Words::new(alloc);
-    for word in all {
-        words.push(word).ok()?;
+    for word in command {
+        words.push(word)?;
     }
-    Some(words)
+    let mut sink = MemorySink::new(alloc, 4096, failing)?;
+    let status = replay(alloc, &words, &mut source, &mut sink);
+    Ok((status, Vec::from_slice(alloc, sink.taken())?))
 }
 
-/// A command over a script that comes in pieces of so many bytes.
-fn answer(
+/// A script that comes in pieces of so many bytes.
+fn in_pieces(alloc: Global, script: &[u8], piece: usize) -> Result<MemorySource, Fail> {
+    let pieces = vec![in alloc; piece; script.len()]?;
+    let script = Vec::from_slice(alloc, script)?;
+    Ok(MemorySource::new(script, pieces, Vec::new(alloc)))
+}
+
+/// A command over a script in pieces of so many bytes ends so, and writes this.
+fn ends(
+    rt: &impl Abort,
     alloc: Global,
     command: &[u8],
     script: &[u8],
     piece: usize,
-) -> Option<(Status, MemorySink)> {
-    let command = words(alloc, &[command])?;
-    let pieces = vec![in alloc; piece; script.len()].ok()?;
-    let script = Vec::from_slice(alloc, script).ok()?;
-    let mut source = MemorySource::new(script, pieces, Vec::new(alloc));
-    let mut sink = MemorySink::new(alloc, 4096, Vec::new(alloc)).ok()?;
-    let status = replay(alloc, &command, &mut source, &mut sink);
-    Some((status, sink))
+    report: (Status, &[u8]),
+) -> Result<(), Fail> {
+    let source = in_pieces(alloc, script, piece)?;
+    let (status, text) = answer(alloc, &[command], source, Vec::new(alloc))?;
+    assert_eq!(rt; (status, text.as_slice()), report);
+    Ok(())
 }
 
-fn run(alloc: Global, script: &[u8]) -> Option<(Status, MemorySink)> {
-    answer(alloc, b"run", script, 4096)
+/// `run` comes to the end of a script, and writes this.
+fn runs(rt: &impl Abort, alloc: Global, script: &[u8], report: &[u8]) -> Result<(), Fail> {
+    ends(rt, alloc, b"run", script, 4096, (Status::Done, report))
 }
 
 /// Scripts with a bad line, of which `run` and `check` write the same.
 fn are_bad(rt: &impl Abort, alloc: Global, report: &[u8], scripts: &[&[u8]]) -> Result<(), Fail> {
     for script in scripts {
         for command in [b"run".as_slice(), b"check"] {
-            let (status, sink) = answer(alloc, command, script, 4096).ok_or("memory")?;
-            assert_eq!(rt; sink.taken(), report);
-            assert_eq!(rt; status, Status::BadLine);
+            ends(rt, alloc, command, script, 4096, (Status::BadLine, report))?;
         }
     }
     Ok(())
+}
+
+/// A command that ends so before it has written anything.
+fn writes_nothing(
+    rt: &impl Abort,
+    alloc: Global,
+    command: &[&[u8]],
+    source: MemorySource,
+    failing: Vec<u64>,
+    ended: Status,
+) -> Result<(), Fail> {
+    let (status, text) = answer(alloc, command, source, failing)?;
+    assert_eq!(rt; (status, text.as_slice()), (ended, b"".as_slice()));
+    Ok(())
+}
+
+/// The script in pieces of 20 bytes, whose second read fails.
+fn second_read_fails(alloc: Global) -> Result<MemorySource, Fail> {
+    let failing = vec![in alloc; 2]?;
+    let pieces = vec![in alloc; 20]?;
+    let script = Vec::from_slice(alloc, SCRIPT)?;
+    Ok(MemorySource::new(script, pieces, failing))
 }
 
 const SCRIPT: &[u8] = b"abi ia32 1\npage fffff000 rw -\ncall 109 0 fffffffc 0 0 0 0 0 0 0\n";
@@ -53,9 +91,14 @@ const REPORT: &[u8] =
 #[test]
 fn pieces_of_a_script_change_nothing(rt: HostRuntime) -> Result<(), Fail> {
     for piece in [1, 2, 3, 7] {
-        let (status, sink) = answer(rt.alloc(), b"run", SCRIPT, piece).ok_or("memory")?;
-        assert_eq!(rt; sink.taken(), REPORT);
-        assert_eq!(rt; status, Status::Done);
+        ends(
+            &rt,
+            rt.alloc(),
+            b"run",
+            SCRIPT,
+            piece,
+            (Status::Done, REPORT),
+        )?;
     }
     Ok(())
 }
@@ -64,16 +107,15 @@ fn pieces_of_a_script_change_nothing(rt: HostRuntime) -> Result<(), Fail> {
 fn a_failed_read_is_told(rt: HostRuntime) -> Result<(), Fail> {
     let alloc = rt.alloc();
     for command in [b"run".as_slice(), b"check"] {
-        let words = words(alloc, &[command]).ok_or("words")?;
-        let failing = vec![in alloc; 2]?;
-        let pieces = vec![in alloc; 20]?;
-        let mut source = MemorySource::new(Vec::from_slice(alloc, SCRIPT)?, pieces, failing);
-        let mut sink = MemorySink::new(alloc, 4096, Vec::new(alloc))
-            .ok()
-            .ok_or("sink")?;
-        let status = replay(alloc, &words, &mut source, &mut sink);
-        assert_eq!(rt; status, Status::ReadFault);
-        assert_eq!(rt; sink.taken(), b"".as_slice());
+        let source = second_read_fails(alloc)?;
+        writes_nothing(
+            &rt,
+            alloc,
+            &[command],
+            source,
+            Vec::new(alloc),
+            Status::ReadFault,
+        )?;
     }
     Ok(())
 }
@@ -82,14 +124,9 @@ fn a_failed_read_is_told(rt: HostRuntime) -> Result<(), Fail> {
 fn a_failed_write_is_told(rt: HostRuntime) -> Result<(), Fail> {
     let alloc = rt.alloc();
     for command in [b"run".as_slice(), b"check"] {
-        let words = words(alloc, &[command]).ok_or("words")?;
-        let script = Vec::from_slice(alloc, SCRIPT)?;
-        let mut source = MemorySource::new(script, Vec::new(alloc), Vec::new(alloc));
+        let source = in_pieces(alloc, SCRIPT, 4096)?;
         let failing = vec![in alloc; 1]?;
-        let mut sink = MemorySink::new(alloc, 4096, failing).ok().ok_or("sink")?;
-        let status = replay(alloc, &words, &mut source, &mut sink);
-        assert_eq!(rt; status, Status::WriteFault);
-        assert_eq!(rt; sink.taken(), b"".as_slice());
+        writes_nothing(&rt, alloc, &[command], source, failing, Status::WriteFault)?;
     }
     Ok(())
 }
@@ -106,15 +143,8 @@ fn other_words_are_no_command(rt: HostRuntime) -> Result<(), Fail> {
         &[b"check", b"run"],
     ];
     for other in others {
-        let words = words(alloc, other).ok_or("words")?;
-        let script = Vec::from_slice(alloc, SCRIPT)?;
-        let mut source = MemorySource::new(script, Vec::new(alloc), Vec::new(alloc));
-        let mut sink = MemorySink::new(alloc, 4096, Vec::new(alloc))
-            .ok()
-            .ok_or("sink")?;
-        let status = replay(alloc, &words, &mut source, &mut sink);
-        assert_eq!(rt; status.code(), 1);
-        assert_eq!(rt; sink.taken(), b"".as_slice());
+        let source = in_pieces(alloc, SCRIPT, 4096)?;
+        writes_nothing(&rt, alloc, other, source, Vec::new(alloc), Status::BadWords)?;
     }
     Ok(())
 }
@@ -169,24 +199,25 @@ fn each_cause_is_told(rt: HostRuntime) -> Result<(), Fail> {
 #[test]
 fn a_bad_line_ends_the_report(rt: HostRuntime) -> Result<(), Fail> {
     let script = b"abi ia32 1\ncall ffff 0 0 0 0 0 0 0 0 0\nclock 0 0\nfoo\n";
-    let (status, sink) = run(rt.alloc(), script).ok_or("memory")?;
     let report =
         b"call 1 unknown ffffffda 00000000 00000000 00000000 00000000 00000000 00000000 00000000 00000000 00000000\nbad 3 order\n";
-    assert_eq!(rt; sink.taken(), report.as_slice());
-    assert_eq!(rt; status, Status::BadLine);
-    Ok(())
+    ends(
+        &rt,
+        rt.alloc(),
+        b"run",
+        script,
+        4096,
+        (Status::BadLine, report),
+    )
 }
 
 /// The state as it is then, without the last line of a report.
 #[test]
 fn the_state_is_shown(rt: HostRuntime) -> Result<(), Fail> {
     let script = b"abi ia32 1\nshow\nadvance 1f\nshow\n";
-    let (status, sink) = run(rt.alloc(), script).ok_or("memory")?;
     let report =
         b"state\nclock 0 0\npeak 0\nnode 2 d 0 41ed 0 0 0.0 0.0 0.0\nstate\nclock 1f 1f\npeak 0\nnode 2 d 0 41ed 0 0 0.0 0.0 0.0\nstate\nclock 1f 1f\npeak 0\nnode 2 d 0 41ed 0 0 0.0 0.0 0.0\nend\n";
-    assert_eq!(rt; sink.taken(), report.as_slice());
-    assert_eq!(rt; status, Status::Done);
-    Ok(())
+    runs(&rt, rt.alloc(), script, report)
 }
 
 /// The header counts, and lines that are passed over don't.
@@ -194,38 +225,37 @@ fn the_state_is_shown(rt: HostRuntime) -> Result<(), Fail> {
 fn a_good_script_is_counted(rt: HostRuntime) -> Result<(), Fail> {
     let script = b"\nabi ia32 1\n# x\npage 1000 rw -\nadvance 1\n\nshow\n";
     for piece in [1, 4096] {
-        let (status, sink) = answer(rt.alloc(), b"check", script, piece).ok_or("memory")?;
-        assert_eq!(rt; sink.taken(), b"ok 4\n".as_slice());
-        assert_eq!(rt; status, Status::Done);
+        ends(
+            &rt,
+            rt.alloc(),
+            b"check",
+            script,
+            piece,
+            (Status::Done, b"ok 4\n"),
+        )?;
     }
     Ok(())
 }
 
 /// Two pages, and a poke of 8,187 bytes behind this beginning of its line.
-fn long_script(alloc: Global, poke: &[u8]) -> Option<Vec<u8>> {
-    let mut script = Vec::new(alloc);
-    script
-        .extend_from_slice(b"abi ia32 1\npage 1000 r -\npage 2000 r -\n")
-        .ok()?;
-    script.extend_from_slice(poke).ok()?;
+fn long_script(alloc: Global, poke: &[u8]) -> Result<Vec<u8>, Fail> {
+    let mut script = Vec::from_slice(alloc, b"abi ia32 1\npage 1000 r -\npage 2000 r -\n")?;
+    script.extend_from_slice(poke)?;
     for _ in 0..16_374 {
-        script.push(b'0').ok()?;
+        script.push(b'0')?;
     }
-    script.push(b'\n').ok()?;
-    Some(script)
+    script.push(b'\n')?;
+    Ok(script)
 }
 
 #[test]
 fn lines_have_at_most_16384_bytes(rt: HostRuntime) -> Result<(), Fail> {
     let alloc = rt.alloc();
-    let longest = long_script(alloc, b"poke 1000 ").ok_or("memory")?;
-    let (status, _) = run(alloc, &longest).ok_or("memory")?;
-    assert_eq!(rt; status, Status::Done);
-    let too_long = long_script(alloc, b"poke 01000 ").ok_or("memory")?;
-    let (status, sink) = run(alloc, &too_long).ok_or("memory")?;
-    assert_eq!(rt; sink.taken(), b"bad 4 long\n".as_slice());
-    assert_eq!(rt; status, Status::BadLine);
-    Ok(())
+    let longest = long_script(alloc, b"poke 1000 ")?;
+    let report = b"state\nclock 0 0\npeak 0\nnode 2 d 0 41ed 0 0 0.0 0.0 0.0\nend\n";
+    runs(&rt, alloc, &longest, report)?;
+    let too_long = long_script(alloc, b"poke 01000 ")?;
+    are_bad(&rt, alloc, b"bad 4 long\n", &[&too_long])
 }
 
 /// Both clocks move and stop at their last value. A poke of no bytes is good at any address.
@@ -233,12 +263,9 @@ fn lines_have_at_most_16384_bytes(rt: HostRuntime) -> Result<(), Fail> {
 fn clocks_stop_at_their_end(rt: HostRuntime) -> Result<(), Fail> {
     let script =
         b"abi ia32 1\nclock 3fffffffffffffff 0000000000000005\nrestorer ffffffff\npoke 5000 -\nadvance 1\nadvance 3fffffffffffffff\n";
-    let (status, sink) = run(rt.alloc(), script).ok_or("memory")?;
     let report =
         b"state\nclock 3fffffffffffffff 3fffffffffffffff\npeak 0\nnode 2 d 0 41ed 0 0 0.0 0.0 0.0\nend\n";
-    assert_eq!(rt; sink.taken(), report.as_slice());
-    assert_eq!(rt; status, Status::Done);
-    Ok(())
+    runs(&rt, rt.alloc(), script, report)
 }
 
 /// A process that has ended serves no call. Time passes, and bytes are poked.
@@ -246,36 +273,27 @@ fn clocks_stop_at_their_end(rt: HostRuntime) -> Result<(), Fail> {
 fn an_ended_process_is_gone(rt: HostRuntime) -> Result<(), Fail> {
     let script =
         b"abi ia32 1\npage 1000 r -\ncall 1 7 0 0 0 0 0 0 0 0\ncall 14 0 0 0 0 0 0 0 0 0\nadvance a\npoke 1000 ff\n";
-    let (status, sink) = run(rt.alloc(), script).ok_or("memory")?;
     let report =
         b"call 1 exit 00000001 00000007 00000000 00000000 00000000 00000000 00000000 00000000 00000000 00000000\nexit 7\ncall 2 gone\nstate\nclock a a\nended exit 7\npeak 0\nnode 2 d 0 41ed 0 0 0.0 0.0 0.0\nend\n";
-    assert_eq!(rt; sink.taken(), report.as_slice());
-    assert_eq!(rt; status, Status::Done);
-    Ok(())
+    runs(&rt, rt.alloc(), script, report)
 }
 
 #[test]
 fn changed_limits_are_told(rt: HostRuntime) -> Result<(), Fail> {
     let script =
         b"abi ia32 1\npage 1000 r 050000000600000003000000ffffffff\ncall 4b 7 1000 0 0 0 0 0 0 0\ncall 4b 2 1008 0 0 0 0 0 0 0\n";
-    let (status, sink) = run(rt.alloc(), script).ok_or("memory")?;
     let report =
         b"call 1 setrlimit 00000000 00000007 00001000 00000000 00000000 00000000 00000000 00000000 00000000 00000000\ncall 2 setrlimit 00000000 00000002 00001008 00000000 00000000 00000000 00000000 00000000 00000000 00000000\nstate\nclock 0 0\npeak 0\nlimit 2 3 ffffffffffffffff\nlimit 7 5 6\nnode 2 d 0 41ed 0 0 0.0 0.0 0.0\nend\n";
-    assert_eq!(rt; sink.taken(), report.as_slice());
-    assert_eq!(rt; status, Status::Done);
-    Ok(())
+    runs(&rt, rt.alloc(), script, report)
 }
 
 /// getpid of an Arm process.
 #[test]
 fn an_arm_process_has_its_number(rt: HostRuntime) -> Result<(), Fail> {
     let script = b"abi arm 1\nwho 3fffff 6 7 0\ncall 0 1 2 3 4 5 6 14 8 9 a b c d e f 10\n";
-    let (status, sink) = run(rt.alloc(), script).ok_or("memory")?;
     let report =
         b"call 1 getpid 003fffff 00000001 00000002 00000003 00000004 00000005 00000006 00000014 00000008 00000009 0000000a 0000000b 0000000c 0000000d 0000000e 0000000f 00000010\nstate\nclock 0 0\npeak 0\nnode 2 d 0 41ed 0 0 0.0 0.0 0.0\nend\n";
-    assert_eq!(rt; sink.taken(), report.as_slice());
-    assert_eq!(rt; status, Status::Done);
-    Ok(())
+    runs(&rt, rt.alloc(), script, report)
 }
 
 /// The first and the last number of a usage, and a clock that the privilege lets set to five seconds. Image lines follow
@@ -284,10 +302,7 @@ fn an_arm_process_has_its_number(rt: HostRuntime) -> Result<(), Fail> {
 fn usage_and_privilege_are_kept(rt: HostRuntime) -> Result<(), Fail> {
     let script =
         b"abi ia32 1\npage 1000 rw -\npoke 1100 05\nusage 1 0 0 0 0 0 0 0 0 0 0 0 0 0 0 0 0 12\nwho 1 0 0 1\ncall 4d 0 1000 0 0 0 0 0 0 0\ncall 108 0 1100 0 0 0 0 0 0 0\n";
-    let (status, sink) = run(rt.alloc(), script).ok_or("memory")?;
     let report =
         b"call 1 getrusage 00000000 00000000 00001000 00000000 00000000 00000000 00000000 00000000 00000000 00000000\nmem 00001000 01\nmem 00001044 12\ncall 2 clock_settime 00000000 00000000 00001100 00000000 00000000 00000000 00000000 00000000 00000000 00000000\nstate\nclock 12a05f200 0\npeak 0\nnode 2 d 0 41ed 0 0 0.0 0.0 0.0\nend\n";
-    assert_eq!(rt; sink.taken(), report.as_slice());
-    assert_eq!(rt; status, Status::Done);
-    Ok(())
+    runs(&rt, rt.alloc(), script, report)
 }

@@ -62,7 +62,7 @@ pub fn replay<S: Source, O: Sink>(
         × (result ≡ (answer_to words.now bytes).status) × (O.taken sink.new ≡ appended (O.taken sink.old) (answer_to words.now bytes).text) }
     ensures counts { IsEnd result → (S.faults source.new ≡ S.faults source.old) × (O.faults sink.new ≡ O.faults sink.old) }
 
-    // What was read is a front of the stream. Where it is done, nothing is left.
+    // What was read is a front of the stream, at most 2^28 + 1 bytes. Where it is done, nothing is left.
     ensures read { IsRead (S.left source.old) (S.left source.new) }
     ensures read_to_end { result ≡ Status.Done → IsAtEnd (S.left source.new) }
 

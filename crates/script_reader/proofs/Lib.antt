@@ -1,4 +1,5 @@
 pub mod FieldSteps
+pub mod PathSteps
 pub mod LoopSteps
 pub mod Covered
 pub mod LineSteps

@@ -1,7 +1,7 @@
 -- What a reader has taken of its source, turn by turn.
-use Rattle.std.proofs.Common.{◌≡◌, ℕ, ◌+◌, false, List, [], ◌++◌, length, take, drop, refl, sym, ap, ◌∙◌, append_assoc, add-zero}
+use Rattle.std.proofs.Common.{◌≡◌, ℕ, ◌+◌, false, List, [], ◌++◌, length, take, drop, refl, sym, ap, ◌∙◌, append_assoc, add-zero, ◌^◌, ◌≤◌, arith}
 use Rattle.std.specs.Prelude.{Option, Some, None, Result, Ok, Err}
-use Rattle.std.proofs.lemmas.List.{append-nil, take_at, drop_at}
+use Rattle.std.proofs.lemmas.List.{append-nil, take_at, drop_at, length-append}
 use Rattle.io_edge.specs.Told.{put_back}
 use Rattle.script_reader.specs.declared.seen.Seen.{Seen}
 use Rattle.script_reader.specs.declared.fault.LineCause.{LineCause}
@@ -12,13 +12,14 @@ use Rattle.script_reader.specs.Ahead.{TakesPiece, IsReadFault}
 use Rattle.script_reader.specs.Ending.{ScriptText, ends}
 use Rattle.script_reader.specs.Ending as endings
 use Rattle.script_reader.specs.Script.{Next, Given, BadLine, TooLarge, AtEnd, next_from, next_with, ending_at, script_from, script_by}
-use Rattle.script_reader.specs.Reads.{ScriptState, next_in, script_left, IsBadIn, Answers, IsFound, IsNextOf}
+use Rattle.script_reader.specs.Reads.{ScriptState, next_in, script_left, IsBadIn, Answers, TakesFew, IsFound, IsNextOf}
 use Rattle.script_reader.proofs.ScriptLaws.{next_from-append, script_from-next}
 
--- a piece was taken, and what comes first in the bytes before it and in it is `now`
-pub record HasTaken (before after : Option (List ℕ)) (seen : Seen) (count : ℕ) (bytes : List ℕ) (now : Next) : Type 0 where
+-- A piece was taken, and what comes first in the bytes before it and in it is `now`. With it `all` bytes were taken.
+pub record HasTaken (before after : Option (List ℕ)) (seen : Seen) (count : ℕ) (bytes : List ℕ) (all : ℕ) (now : Next) : Type 0 where
   pub piece : List ℕ
   pub taken : before ≡ put_back piece after
+  pub size : all ≡ count + length bytes + length piece
   pub next : next_from seen [] count (bytes ++ piece) ≡ now
 
 -- the source is as it was, and what comes first is still the same
@@ -34,40 +35,65 @@ put_back_twice : (left : Option (List ℕ)) (a b : List ℕ) → put_back a (put
 put_back_twice None a b = refl
 put_back_twice (Some bytes) a b = ap (λ (xs : List ℕ). Some xs) (sym (append_assoc a b bytes))
 
-pub taken_none : (left : Option (List ℕ)) (seen : Seen) (count : ℕ) (bytes : List ℕ) → HasTaken left left seen count bytes (next_from seen (take 0 bytes) (count + 0) (drop 0 bytes))
+pub taken_none : (left : Option (List ℕ)) (seen : Seen) (count : ℕ) (bytes : List ℕ) → HasTaken left left seen count bytes (count + length bytes) (next_from seen (take 0 bytes) (count + 0) (drop 0 bytes))
 taken_none left seen count bytes = record {
   piece = [];
   taken = put_back_none left;
+  size = omega arith;
   next = rw (append-nil bytes, add-zero count) refl;
 }
 
-pub taken_then : (before after : Option (List ℕ)) (seen : Seen) (count : ℕ) (bytes : List ℕ) (now then : Next) → HasTaken before after seen count bytes now → now ≡ then → HasTaken before after seen count bytes then
-taken_then before after seen count bytes now then h e = record { piece = h.piece; taken = h.taken; next = h.next ∙ e }
+pub taken_then : (before after : Option (List ℕ)) (seen : Seen) (count : ℕ) (bytes : List ℕ) (all then_all : ℕ) (now then : Next) → HasTaken before after seen count bytes all now → then_all ≡ all → now ≡ then → HasTaken before after seen count bytes then_all then
+taken_then before after seen count bytes all then_all now then h same e = record {
+  piece = h.piece;
+  taken = h.taken;
+  size = same ∙ h.size;
+  next = h.next ∙ e;
+}
 
 -- a further piece, where what was there had come to its end
-pub taken_more : (before mid after : Option (List ℕ)) (seen : Seen) (count : ℕ) (bytes : List ℕ) (seen' : Seen) (line piece : List ℕ) (count' : ℕ) → HasTaken before mid seen count bytes (AtEnd seen' line count') → mid ≡ put_back piece after
-    → HasTaken before after seen count bytes (next_from seen' line count' piece)
-taken_more before mid after seen count bytes seen' line piece count' h e = record {
+pub taken_more : (before mid after : Option (List ℕ)) (seen : Seen) (count : ℕ) (bytes : List ℕ) (all : ℕ) (seen' : Seen) (line piece : List ℕ) (count' : ℕ) → HasTaken before mid seen count bytes all (AtEnd seen' line count') → mid ≡ put_back piece after
+    → HasTaken before after seen count bytes (all + length piece) (next_from seen' line count' piece)
+taken_more before mid after seen count bytes all seen' line piece count' h e = record {
   piece = h.piece ++ piece;
   taken = h.taken ∙ ap (put_back h.piece) e ∙ put_back_twice after h.piece piece;
+  size = omega (arith, h.size, length-append h.piece piece);
   next = ap (next_from seen [] count) (sym (append_assoc bytes h.piece piece)) ∙ next_from-append (bytes ++ h.piece) piece seen [] count ∙ ap (λ (n : Next). next_with n piece) h.next;
 }
 
 -- a read behind bytes that came to their end
 pub taken_read : (before mid after : Option (List ℕ)) (seen : Seen) (count : ℕ) (bytes : List ℕ) (seen' : Seen) (old new : List ℕ) (from count' n : ℕ)
-    → HasTaken before mid seen count bytes (next_from seen' (take from old) (count' + from) (drop from old)) → next_from seen' (take from old) (count' + from) (drop from old) ≡ AtEnd seen' old (count' + length old) → TakesPiece mid after old new n
-    → HasTaken before after seen count bytes (next_from seen' (take (length old) new) (count' + length old) (drop (length old) new))
+    → HasTaken before mid seen count bytes (count' + length old) (next_from seen' (take from old) (count' + from) (drop from old)) → next_from seen' (take from old) (count' + from) (drop from old) ≡ AtEnd seen' old (count' + length old) → TakesPiece mid after old new n
+    → HasTaken before after seen count bytes (count' + length new) (next_from seen' (take (length old) new) (count' + length old) (drop (length old) new))
 taken_read before mid after seen count bytes seen' old new from count' n h e p =
+    let all = count' + length old in
+    let now = next_from seen' (take from old) (count' + from) (drop from old) in
+    let ended = taken_then before mid seen count bytes all all now (AtEnd seen' old all) h refl e in
+    let more = taken_more before mid after seen count bytes all seen' old p.0 all ended p.3 in
+    let size : count' + length (old ++ p.0) ≡ all + length p.0 = omega (arith, length-append old p.0) in
     rw (p.1, take_at old p.0 (length old) refl, drop_at old p.0 (length old) refl)
-    (taken_more before mid after seen count bytes seen' old p.0 (count' + length old) (taken_then before mid seen count bytes (next_from seen' (take from old) (count' + from) (drop from old)) (AtEnd seen' old (count' + length old)) h e) p.3)
+    (taken_then before after seen count bytes (all + length p.0) (count' + length (old ++ p.0)) (next_from seen' old all p.0) (next_from seen' old all p.0) more size refl)
+
+-- what a read that failed may have taken
+abbrev pub Lost : Option (List ℕ) → Option (List ℕ) → ℕ → Type 0
+Lost before after all = (piece : List ℕ) × (before ≡ put_back piece after) × (all + length piece ≤ 2 ^ 28 + 1)
+
+lost_few : (before mid : Option (List ℕ)) (seen : Seen) (count : ℕ) (bytes : List ℕ) (all : ℕ) (now : Next) (fault : ScriptFault) (piece : List ℕ) (kept : ℕ) → (h : HasTaken before mid seen count bytes all now) → all + length piece ≤ 2 ^ 28 + 1
+    → TakesFew (count + length bytes) (length (h.piece ++ piece)) (Err fault) kept
+lost_few before mid seen count bytes all now fault piece kept h most = record {
+  most = omega (arith, h.size, most, length-append h.piece piece);
+  kept = tt;
+}
 
 -- a read that failed may have taken bytes too
-pub taken_lost : (before mid after : Option (List ℕ)) (seen : Seen) (count : ℕ) (bytes : List ℕ) (now : Next) (fault : ScriptFault) (old new : ℕ) (state : ScriptState) → HasTaken before mid seen count bytes now → ((piece : List ℕ) × (mid ≡ put_back piece after)) → IsReadFault fault old new → state.alive ≡ false
-    → (piece : List ℕ) × (before ≡ put_back piece after) × Answers (next_from seen [] count (bytes ++ piece)) after (Err fault) state
-taken_lost before mid after seen count bytes now (faults.BadLine line cause) old new state h lost f e = absurd f
-taken_lost before mid after seen count bytes now faults.ReadFault old new state h lost f e = (h.piece ++ lost.0, h.taken ∙ ap (put_back h.piece) lost.1 ∙ put_back_twice after h.piece lost.0, e)
-taken_lost before mid after seen count bytes now faults.TooLarge old new state h lost f e = absurd f
-taken_lost before mid after seen count bytes now faults.OutOfMemory old new state h lost f e = (h.piece ++ lost.0, h.taken ∙ ap (put_back h.piece) lost.1 ∙ put_back_twice after h.piece lost.0, e)
+pub taken_lost : (before mid after : Option (List ℕ)) (seen : Seen) (count : ℕ) (bytes : List ℕ) (all : ℕ) (now : Next) (fault : ScriptFault) (old new : ℕ) (state : ScriptState) (kept : ℕ) → HasTaken before mid seen count bytes all now → Lost mid after all
+    → IsReadFault fault old new → state.alive ≡ false → (piece : List ℕ) × (before ≡ put_back piece after) × Answers (next_from seen [] count (bytes ++ piece)) after (Err fault) state × TakesFew (count + length bytes) (length piece) (Err fault) kept
+taken_lost before mid after seen count bytes all now (faults.BadLine line cause) old new state kept h lost f e = absurd f
+taken_lost before mid after seen count bytes all now faults.ReadFault old new state kept h lost f e =
+    (h.piece ++ lost.0, h.taken ∙ ap (put_back h.piece) lost.1 ∙ put_back_twice after h.piece lost.0, e, lost_few before mid seen count bytes all now faults.ReadFault lost.0 kept h lost.2)
+taken_lost before mid after seen count bytes all now faults.TooLarge old new state kept h lost f e = absurd f
+taken_lost before mid after seen count bytes all now faults.OutOfMemory old new state kept h lost f e =
+    (h.piece ++ lost.0, h.taken ∙ ap (put_back h.piece) lost.1 ∙ put_back_twice after h.piece lost.0, e, lost_few before mid seen count bytes all now faults.OutOfMemory lost.0 kept h lost.2)
 
 -- where something was found, the bytes didn't come to their end
 pub found_no_end : (first now : Next) (seen : Seen) (line : List ℕ) (count : ℕ) → IsFound first → now ≡ first → now ≡ AtEnd seen line count → ⊥

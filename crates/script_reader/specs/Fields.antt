@@ -1,5 +1,5 @@
 -- Lines as fields with one space between them, and numbers and bytes in hexadecimal digits.
-use Rattle.std.specs.Prelude.{ℕ, zero, suc, ℤ, pos, ◌+◌, ◌-◌, ◌*◌, ◌^◌, ◌==◌, ◌&&◌, nat_lt, nat_le, if◌then◌else◌, Bool, true, false, List, [], ◌∷◌, length, Option, Some, None}
+use Rattle.std.specs.Prelude.{ℕ, zero, suc, ℤ, pos, ◌+◌, ◌-◌, ◌*◌, ◌^◌, ◌==◌, ◌&&◌, not, nat_lt, nat_le, if◌then◌else◌, Bool, true, false, List, [], ◌∷◌, ◌++◌, length, codes, Option, Some, None}
 use Rattle.std.specs.Result.{result_ok}
 use Rattle.hex.specs.Hex.{decode_of}
 
@@ -66,3 +66,32 @@ fields_in read (suc n) (Some rest) = read (first_field rest) >>= λ x. fields_in
 -- pairs of digits, at least one, or a dash for none
 abbrev pub data_of : List ℕ → Option (List ℕ)
 data_of cs = if same cs (45 ∷ []) then Some [] else (if length cs == 0 then None else result_ok (decode_of cs))
+
+-- a name in a path: 1 to 255 bytes, and neither `.` nor `..`
+unfoldable pub is_name : List ℕ → Bool
+is_name name = nat_le 1 (length name) && nat_le (length name) 255 && not (same name (codes ".")) && not (same name (codes ".."))
+
+-- a byte that a name in a path may have, where it isn't the slash
+abbrev pub is_graphic : ℕ → Bool
+is_graphic b = nat_le 0x21 b && nat_le b 0x7e
+
+-- bytes go on with a name in a path, and with further ones behind a slash each
+unfoldable pub are_names : List ℕ → List ℕ → Bool
+are_names name [] = is_name name
+are_names name (b ∷ bs) = if b == 47 then is_name name && are_names [] bs else is_graphic b && are_names (name ++ b ∷ []) bs
+
+-- names with a slash before each
+abbrev pub is_path : List ℕ → Bool
+is_path [] = false
+is_path (b ∷ bs) = (b == 47) && are_names [] bs
+
+abbrev pub path_of : List ℕ → Option (List ℕ)
+path_of cs = if is_path cs then Some cs else None
+
+-- an inode number of the image
+abbrev pub inode_of : List ℕ → Option ℕ
+inode_of cs = number_below (2 ^ 63) cs >>= λ n. if nat_le 1 n then Some n else None
+
+-- how many bytes a file of the image has
+abbrev pub size_of : List ℕ → Option ℕ
+size_of cs = number_below (2 ^ 40 + 1) cs

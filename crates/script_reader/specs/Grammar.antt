@@ -13,7 +13,7 @@ use Rattle.script_reader.specs.declared.grammar.Keyword.{Keyword}
 use Rattle.script_reader.specs.declared.grammar.Keyword.TheVariants as keywords
 use Rattle.script_reader.specs.declared.record.Record.{Record}
 use Rattle.script_reader.specs.declared.record.Record.TheVariants as records
-use Rattle.script_reader.specs.Fields.{◌>>=◌, same, first_field, after_field, word, clock, count, fields_in, data_of}
+use Rattle.script_reader.specs.Fields.{◌>>=◌, same, first_field, after_field, number, word, clock, count, fields_in, data_of, path_of, inode_of, size_of}
 
 -- what a line says
 pub data Line : Type 0 where
@@ -23,6 +23,9 @@ pub data Line : Type 0 where
   Usage : (usage : times.Usage) → Line
   Restorer : (address : ℕ) → Line
   Page : (at : ℕ) (writable : Bool) (bytes : List ℕ) → Line
+  Dir : (path : List ℕ) (inode : ℕ) → Line
+  File : (path : List ℕ) (inode size : ℕ) → Line
+  Bytes : (path : List ℕ) (offset : ℕ) (bytes : List ℕ) → Line
   Poke : (at : ℕ) (bytes : List ℕ) → Line
   Call : (registers : Registers) → Line
   Advance : (nanos : ℕ) → Line
@@ -36,6 +39,9 @@ line_of (records.Who owner privileged) = Who owner privileged
 line_of (records.Usage usage) = Usage usage
 line_of (records.Restorer address) = Restorer address
 line_of (records.Page at writable bytes) = Page at writable bytes.items
+line_of (records.Dir path inode) = Dir path inode
+line_of (records.File path inode size) = File path inode size
+line_of (records.Bytes path offset bytes) = Bytes path offset bytes
 line_of (records.Poke at bytes) = Poke at bytes.items
 line_of (records.Call registers) = Call registers
 line_of (records.Advance nanos) = Advance nanos
@@ -94,6 +100,34 @@ page_line rest =
     data_of third >>= λ bytes.
     page_of at writable bytes
 
+-- a path and an inode
+unfoldable pub dir_line : List ℕ → Option Line
+dir_line rest =
+    after_field rest >>= λ second.
+    inode_of second >>= λ inode.
+    path_of (first_field rest) >>= λ path.
+    Some (Dir path inode)
+
+-- a path, an inode and a size
+unfoldable pub file_line : List ℕ → Option Line
+file_line rest =
+    after_field rest >>= λ second.
+    after_field second >>= λ third.
+    inode_of (first_field second) >>= λ inode.
+    size_of third >>= λ size.
+    path_of (first_field rest) >>= λ path.
+    Some (File path inode size)
+
+-- a path, an offset and bytes
+unfoldable pub bytes_line : List ℕ → Option Line
+bytes_line rest =
+    after_field rest >>= λ second.
+    after_field second >>= λ third.
+    number (first_field second) >>= λ offset.
+    path_of (first_field rest) >>= λ path.
+    data_of third >>= λ bytes.
+    Some (Bytes path offset bytes)
+
 -- an address and bytes
 unfoldable pub poke_line : List ℕ → Option Line
 poke_line rest =
@@ -125,12 +159,15 @@ keyword_of name =
     else (if same name (codes "advance") then Some keywords.Advance
     else (if same name (codes "poke") then Some keywords.Poke
     else (if same name (codes "page") then Some keywords.Page
+    else (if same name (codes "dir") then Some keywords.Dir
+    else (if same name (codes "file") then Some keywords.File
+    else (if same name (codes "data") then Some keywords.Bytes
     else (if same name (codes "clock") then Some keywords.Clock
     else (if same name (codes "who") then Some keywords.Who
     else (if same name (codes "usage") then Some keywords.Usage
     else (if same name (codes "restorer") then Some keywords.Restorer
     else (if same name (codes "show") then Some keywords.Show
-    else None))))))))
+    else None)))))))))))
 
 -- how many fields a line has, its first one among them
 abbrev pub fields_of : AbiKind → Keyword → ℕ
@@ -139,6 +176,9 @@ fields_of kind keywords.Who = 5
 fields_of kind keywords.Usage = 19
 fields_of kind keywords.Restorer = 2
 fields_of kind keywords.Page = 4
+fields_of kind keywords.Dir = 3
+fields_of kind keywords.File = 4
+fields_of kind keywords.Bytes = 4
 fields_of kind keywords.Poke = 3
 fields_of abi.Ia32 keywords.Call = 11
 fields_of abi.ArmEabi keywords.Call = 18
@@ -156,6 +196,9 @@ line_about kind keywords.Who rest = who_line rest
 line_about kind keywords.Usage rest = usage_line rest
 line_about kind keywords.Restorer rest = restorer_line rest
 line_about kind keywords.Page rest = page_line rest
+line_about kind keywords.Dir rest = dir_line rest
+line_about kind keywords.File rest = file_line rest
+line_about kind keywords.Bytes rest = bytes_line rest
 line_about kind keywords.Poke rest = poke_line rest
 line_about kind keywords.Call rest = call_line kind rest
 line_about kind keywords.Advance rest = advance_line rest
@@ -178,7 +221,7 @@ abbrev pub said_by : Result Record LineCause → Result Line LineCause
 said_by (Ok r) = Ok (line_of r)
 said_by (Err cause) = Err cause
 
--- clocks are below their end; a page stands at a multiple of its size, and has no more bytes
+-- clocks are below their end; a page stands at a multiple of its size, and has no more bytes; a file has at most 2^40
 abbrev pub IsInRange : Line → Type 0
 IsInRange (Header kind) = ⊤
 IsInRange (Clock real monotonic) = (real < 2 ^ 62) × (monotonic < 2 ^ 62)
@@ -186,6 +229,9 @@ IsInRange (Who owner privileged) = ⊤
 IsInRange (Usage usage) = ⊤
 IsInRange (Restorer address) = ⊤
 IsInRange (Page at writable bytes) = (at % 4096 ≡ 0) × (length bytes ≤ 4096)
+IsInRange (Dir path inode) = ⊤
+IsInRange (File path inode size) = size ≤ 2 ^ 40
+IsInRange (Bytes path offset bytes) = ⊤
 IsInRange (Poke at bytes) = ⊤
 IsInRange (Call registers) = ⊤
 IsInRange (Advance nanos) = nanos < 2 ^ 62

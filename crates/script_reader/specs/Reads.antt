@@ -1,5 +1,5 @@
 -- A reader of a script, and what a call for the next record comes to.
-use Rattle.std.specs.Prelude.{◌≡◌, ◌≤◌, ⊤, ℕ, Bool, true, false, List, [], ◌++◌, Option, Some, None, Result, Ok, Err, is_ok}
+use Rattle.std.specs.Prelude.{◌≡◌, ◌≤◌, ⊤, ℕ, ◌+◌, ◌^◌, Bool, true, false, List, [], ◌++◌, length, Option, Some, None, Result, Ok, Err, OnOk, is_ok}
 use Rattle.io_edge.specs.Told.{Rose, IsAtEnd}
 use Rattle.script_reader.specs.declared.fault.LineCause.{LineCause}
 use Rattle.script_reader.specs.declared.fault.ScriptFault.{ScriptFault}
@@ -62,6 +62,16 @@ Answers next left (Err (faults.BadLine line cause)) after = IsBadIn next left li
 Answers next left (Err faults.TooLarge) after = (next ≡ TooLarge) × (after.alive ≡ false)
 Answers next left (Err faults.ReadFault) after = after.alive ≡ false
 Answers next left (Err faults.OutOfMemory) after = after.alive ≡ false
+
+-- how many bytes have gone by or stand read ahead
+abbrev pub read_count : ScriptState → ℕ
+read_count s = s.count + length s.ahead
+
+-- How many bytes a call took: with those read before it at most one more than a script has, whatever it answers. Without
+-- a fault each of them has gone by or stands read ahead.
+pub record TakesFew (before size : ℕ) (answer : Result (Option Record) ScriptFault) (after : ℕ) : Type 0 where
+  pub most : before + size ≤ 2 ^ 28 + 1
+  pub kept : OnOk answer (after ≡ before + size)
 
 -- how the count of faults goes with an answer
 abbrev pub Counts : Result (Option Record) ScriptFault → ℕ → ℕ → Type 0

@@ -1,16 +1,17 @@
 -- What has been seen of a script, and whether a line may stand at its place.
-use Rattle.std.specs.Prelude.{ℕ, zero, suc, ◌+◌, ◌/◌, ◌^◌, ◌==◌, ◌&&◌, ◌||◌, nat_le, if◌then◌else◌, Bool, true, false, List, [], ◌∷◌, length, Option, Some, None, Result, Ok, Err}
+use Rattle.std.specs.Prelude.{ℕ, zero, suc, ◌+◌, ◌/◌, ◌^◌, ◌==◌, ◌&&◌, ◌||◌, not, nat_le, if◌then◌else◌, Bool, true, false, List, [], ◌∷◌, length, Option, Some, None, Result, Ok, Err}
 use Rattle.std.specs.Ordering.{nat_cmp}
 use Rattle.std.specs.BTreeSet.{BTreeSet, contains, insert_key, btree_set_len}
+use Rattle.file_store.specs.Image.{fresh_files, is_free_name, has_bytes, image_directory, image_file}
 use Rattle.kernel_values.specs.declared.abi.AbiKind.{AbiKind}
 use Rattle.script_reader.specs.declared.fault.LineCause.{LineCause}
 use Rattle.script_reader.specs.declared.fault.LineCause.TheVariants as causes
 use Rattle.script_reader.specs.declared.record.Record.{Record}
 use Rattle.script_reader.specs.declared.seen.Seen.{Seen}
-use Rattle.script_reader.specs.Grammar.{Line, Header, Clock, Who, Usage, Restorer, Page, Poke, Call, Advance, Show, abi_of, read_line, line_of}
+use Rattle.script_reader.specs.Grammar.{Line, Header, Clock, Who, Usage, Restorer, Page, Dir, File, Bytes, Poke, Call, Advance, Show, abi_of, read_line, line_of}
 
 abbrev pub new_seen : Seen
-new_seen = record { lines = 0; abi = None; clock = false; who = false; usage = false; restorer = false; begun = false; pages = record { keys = [] } }
+new_seen = record { lines = 0; abi = None; clock = false; who = false; usage = false; restorer = false; begun = false; pages = record { keys = [] }; files = fresh_files }
 
 -- whether the page with this number is mapped
 abbrev pub has_page : BTreeSet ℕ → ℕ → Bool
@@ -28,7 +29,7 @@ all_mapped pages a (suc n) = has_page pages (a / 4096) && all_mapped pages (a + 
 abbrev pub is_covered : BTreeSet ℕ → ℕ → ℕ → Bool
 is_covered pages a n = nat_le (a + n) (2 ^ 32) && all_mapped pages a n
 
--- a line of the image stands before the first event, and what it gives isn't there yet
+-- a line of the image stands before the first event, and its place is free
 abbrev pub image_fault : Seen → Bool → Option LineCause
 image_fault s given = if s.begun then Some causes.Order else (if given then Some causes.Image else None)
 
@@ -40,6 +41,9 @@ misplaced s (Who owner privileged) = image_fault s s.who
 misplaced s (Usage usage) = image_fault s s.usage
 misplaced s (Restorer address) = image_fault s s.restorer
 misplaced s (Page at writable bytes) = image_fault s (has_page s.pages (at / 4096) || nat_le 16384 (btree_set_len s.pages))
+misplaced s (Dir path inode) = image_fault s (not (is_free_name s.files path inode))
+misplaced s (File path inode size) = image_fault s (not (is_free_name s.files path inode))
+misplaced s (Bytes path offset bytes) = image_fault s (not (has_bytes s.files path offset (length bytes)))
 misplaced s (Poke at bytes) = if is_covered s.pages at (length bytes) then None else Some causes.Image
 misplaced s (Call registers) = None
 misplaced s (Advance nanos) = None
@@ -53,6 +57,9 @@ seen_with s (Who owner privileged) = record s { who = true }
 seen_with s (Usage usage) = record s { usage = true }
 seen_with s (Restorer address) = record s { restorer = true }
 seen_with s (Page at writable bytes) = record s { pages = with_page s.pages (at / 4096) }
+seen_with s (Dir path inode) = record s { files = (image_directory s.files path inode).1 }
+seen_with s (File path inode size) = record s { files = (image_file s.files path inode size).1 }
+seen_with s (Bytes path offset bytes) = s
 seen_with s (Poke at bytes) = s
 seen_with s (Call registers) = record s { begun = true }
 seen_with s (Advance nanos) = record s { begun = true }

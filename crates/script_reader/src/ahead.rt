@@ -94,6 +94,7 @@ impl Ahead {
         ensures sound { IsSound self.new }
         ensures bytes { bytes_of self.new ≡ drop size (bytes_of self.old) }
         ensures count { self.new.count ≡ self.old.count + size }
+        ensures all { self.new.count + length (bytes_of self.new) ≡ self.old.count + length (bytes_of self.old) }
     {
         self.at += size;
         self.count += size;
@@ -118,7 +119,8 @@ impl Ahead {
         ensures sound { IsSound self.new }
         ensures count { self.new.count ≡ self.old.count }
         ensures piece { IfOk result (λ n. TakesPiece (S.left source.old) (S.left source.new) (bytes_of self.old) (bytes_of self.new) n) }
-        ensures lost { OnErr result ((piece : List ℕ) × (S.left source.old ≡ put_back piece (S.left source.new))) }
+        ensures lost { OnErr result ((piece : List ℕ) × (S.left source.old ≡ put_back piece (S.left source.new))
+            × (self.old.count + length (bytes_of self.old) + length piece ≤ 2 ^ 28 + 1)) }
         ensures end { IfOk result (λ n. n ≡ 0 → IsAtEnd (S.left source.new)) }
         ensures same_count { OnOk result (S.faults source.new ≡ S.faults source.old) }
         ensures fault { IfErr result (λ fault. IsReadFault fault (S.faults source.old) (S.faults source.new)) }

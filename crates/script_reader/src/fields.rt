@@ -1,11 +1,11 @@
 //! Fields of a line, and numbers in hexadecimal digits.
 
-ghost use Rattle.std.specs.Prelude.{◌≡◌, ◌+◌, ◌*◌, ◌^◌, ◌<◌, ◌≤◌, ◌&&◌, ◌==◌, length, IfOk, IfSome, Some};
+ghost use Rattle.std.specs.Prelude.{◌≡◌, ◌+◌, ◌*◌, ◌^◌, ◌<◌, ◌≤◌, ◌&&◌, ◌==◌, [], length, IfOk, IfSome, Some};
 ghost use Rattle.std.specs.Option.{option_map};
-ghost use Rattle.script_reader.specs.Fields.{same, first_field, after_field, digit, digits_from, number, number_below, word, clock, count, fields_in, data_of};
+ghost use Rattle.script_reader.specs.Fields.{same, first_field, after_field, digit, digits_from, number, number_below, word, clock, count, fields_in, data_of, is_name, is_graphic, are_names, is_path, path_of, inode_of, size_of};
 
 use hex::FromHexError;
-use kernel_values::OutOfMemory;
+use kernel_values::{OutOfMemory, PathText};
 use std::alloc::Global;
 
 /// Whether two texts are the same.
@@ -166,4 +166,80 @@ pub fn bytes_in(alloc: Global, field: &[u8]) -> Result<Option<Vec<u8>>, OutOfMem
         Err(FromHexError::OutOfMemory) => Err(OutOfMemory),
         Err(_) => Ok(None),
     }
+}
+
+/// A name in a path.
+#[tactic(auto, unfolding(crate::specs::Fields::is_name))]
+fn is_name(name: &[u8]) -> bool
+    ensures { result ≡ is_name name.now }
+{
+    1 <= name.len() && name.len() <= 255 && !is_same(name, b".") && !is_same(name, b"..")
+}
+
+fn is_graphic(b: u8) -> bool
+    ensures { result ≡ is_graphic b }
+{
+    0x21 <= b && b <= 0x7e
+}
+
+/// Names with a slash between two.
+fn are_names(bytes: &[u8]) -> bool
+    ensures { result ≡ are_names [] bytes.now }
+{
+    let mut from: usize = 0;
+    for i in 0..bytes.len() {
+        if bytes[i] == b'/' {
+            if !is_name(&bytes[from..i]) {
+                return false;
+            }
+            from = i + 1;
+            continue;
+        }
+        if !is_graphic(bytes[i]) {
+            return false;
+        }
+    }
+    is_name(&bytes[from..])
+}
+
+/// Names with a slash before each.
+fn is_path(field: &[u8]) -> bool
+    ensures { result ≡ is_path field.now }
+{
+    match field.first() {
+        Some(b) => *b == b'/' && are_names(&field[1..]),
+        None => false,
+    }
+}
+
+/// The path of a field.
+pub fn path_in(alloc: Global, field: &[u8]) -> Result<Option<PathText>, OutOfMemory>
+    ensures { IfOk result (λ r. r ≡ path_of field.now) }
+{
+    if !is_path(field) {
+        return Ok(None);
+    }
+    let path = PathText::from_slice(alloc, field)?;
+    Ok(Some(path))
+}
+
+/// The number of an inode: 1 to 2^63 - 1.
+pub fn inode_in(field: &[u8]) -> Option<u64>
+    ensures { result ≡ inode_of field.now }
+{
+    let Some(n) = number_in(field) else {
+        return None;
+    };
+    if n < 1 << 63 && 1 <= n { Some(n) } else { None }
+}
+
+/// The size of a file: at most 2^40.
+pub fn size_in(field: &[u8]) -> Option<u64>
+    ensures is { result ≡ size_of field.now }
+    ensures most { IfSome result (λ n. n ≤ 2 ^ 40) }
+{
+    let Some(n) = number_in(field) else {
+        return None;
+    };
+    if n <= 1 << 40 { Some(n) } else { None }
 }

@@ -1,15 +1,18 @@
-//! What each line of a script says by itself: the header, `clock`, `who`, `usage`, `restorer`, `page`, `poke`, `call`,
-//! `advance` and `show`.
+//! What each line of a script says by itself: the header, `clock`, `who`, `usage`, `restorer`, `page`, `dir`, `file`,
+//! `data`, `poke`, `call`, `advance` and `show`.
 
 ghost use Rattle.std.specs.Prelude.{◌≡◌, ◌^◌, ◌<◌, ◌≤◌, [], length, IfOk, IfSome};
 ghost use Rattle.std.specs.Option.{option_map, unwrap_or};
-ghost use Rattle.script_reader.specs.Grammar.{line_of, IsInRange, abi_of, pid_of, privilege_of, rights_of, clock_line, who_line, usage_line, restorer_line, page_line, poke_line, registers_in, call_line, advance_line, keyword_of, fields_of, field_count, line_about, said_by, read_line};
+ghost use Rattle.script_reader.specs.Grammar.{line_of, IsInRange, abi_of, pid_of, privilege_of, rights_of, clock_line, who_line, usage_line, restorer_line, page_line, dir_line, file_line, bytes_line, poke_line, registers_in, call_line, advance_line, keyword_of, fields_of, field_count, line_about, said_by, read_line};
 
 use crate::fault::LineCause;
-use crate::fields::{bytes_in, clock_in, counts_in, cut_field, is_same, word_in, words_in};
+use crate::fields::{
+    bytes_in, clock_in, counts_in, cut_field, inode_in, is_same, number_in, path_in, size_in,
+    word_in, words_in,
+};
 use crate::record::Record;
 use abi_registers::Registers;
-use kernel_values::{AbiKind, Credentials, OutOfMemory, Usage};
+use kernel_values::{AbiKind, ByteList, Credentials, OutOfMemory, Usage};
 use std::alloc::Global;
 
 /// The first field of a line other than the header: what the line is about.
@@ -20,6 +23,9 @@ pub enum Keyword {
     Usage,
     Restorer,
     Page,
+    Dir,
+    File,
+    Bytes,
     Poke,
     Call,
     Advance,
@@ -184,6 +190,79 @@ fn page_of(alloc: Global, rest: &[u8]) -> Result<Option<Record>, OutOfMemory>
     Ok(None)
 }
 
+#[tactic(auto, unfolding(crate::specs::Grammar::dir_line))]
+fn dir_of(alloc: Global, rest: &[u8]) -> Result<Option<Record>, OutOfMemory>
+    ensures line { IfOk result (λ r. option_map line_of r ≡ dir_line rest.now) }
+    ensures page { IfOk result (λ r. IfSome r (λ x. IsInRange (line_of x))) }
+{
+    let (first, after) = cut_field(rest);
+    let Some(second) = after else {
+        return Ok(None);
+    };
+    let Some(inode) = inode_in(second) else {
+        return Ok(None);
+    };
+    let Some(path) = path_in(alloc, first)? else {
+        return Ok(None);
+    };
+    Ok(Some(Record::Dir { path, inode }))
+}
+
+#[tactic(auto, unfolding(crate::specs::Grammar::file_line))]
+fn file_of(alloc: Global, rest: &[u8]) -> Result<Option<Record>, OutOfMemory>
+    ensures line { IfOk result (λ r. option_map line_of r ≡ file_line rest.now) }
+    ensures page { IfOk result (λ r. IfSome r (λ x. IsInRange (line_of x))) }
+{
+    let (first, after) = cut_field(rest);
+    let Some(second) = after else {
+        return Ok(None);
+    };
+    let (second, after) = cut_field(second);
+    let Some(third) = after else {
+        return Ok(None);
+    };
+    let Some(inode) = inode_in(second) else {
+        return Ok(None);
+    };
+    let Some(size) = size_in(third) else {
+        return Ok(None);
+    };
+    let Some(path) = path_in(alloc, first)? else {
+        return Ok(None);
+    };
+    Ok(Some(Record::File { path, inode, size }))
+}
+
+#[tactic(auto, unfolding(crate::specs::Grammar::bytes_line))]
+fn bytes_of(alloc: Global, rest: &[u8]) -> Result<Option<Record>, OutOfMemory>
+    ensures line { IfOk result (λ r. option_map line_of r ≡ bytes_line rest.now) }
+    ensures page { IfOk result (λ r. IfSome r (λ x. IsInRange (line_of x))) }
+{
+    let (first, after) = cut_field(rest);
+    let Some(second) = after else {
+        return Ok(None);
+    };
+    let (second, after) = cut_field(second);
+    let Some(third) = after else {
+        return Ok(None);
+    };
+    let Some(offset) = number_in(second) else {
+        return Ok(None);
+    };
+    let Some(path) = path_in(alloc, first)? else {
+        return Ok(None);
+    };
+    let Some(bytes) = bytes_in(alloc, third)? else {
+        return Ok(None);
+    };
+    let bytes = ByteList::from_vec(bytes);
+    Ok(Some(Record::Bytes {
+        path,
+        offset,
+        bytes,
+    }))
+}
+
 #[tactic(auto, unfolding(crate::specs::Grammar::poke_line))]
 fn poke_of(alloc: Global, rest: &[u8]) -> Result<Option<Record>, OutOfMemory>
     ensures line { IfOk result (λ r. option_map line_of r ≡ poke_line rest.now) }
@@ -251,6 +330,15 @@ fn keyword_in(name: &[u8]) -> Option<Keyword>
     if is_same(name, b"page") {
         return Some(Keyword::Page);
     }
+    if is_same(name, b"dir") {
+        return Some(Keyword::Dir);
+    }
+    if is_same(name, b"file") {
+        return Some(Keyword::File);
+    }
+    if is_same(name, b"data") {
+        return Some(Keyword::Bytes);
+    }
     if is_same(name, b"clock") {
         return Some(Keyword::Clock);
     }
@@ -279,6 +367,9 @@ fn fields_of(abi: AbiKind, keyword: Keyword) -> usize
         Keyword::Usage => 19,
         Keyword::Restorer => 2,
         Keyword::Page => 4,
+        Keyword::Dir => 3,
+        Keyword::File => 4,
+        Keyword::Bytes => 4,
         Keyword::Poke => 3,
         Keyword::Call => match abi {
             AbiKind::Ia32 => 11,
@@ -306,6 +397,9 @@ fn record_about(
         Keyword::Usage => Ok(usage_of(rest)),
         Keyword::Restorer => Ok(restorer_of(rest)),
         Keyword::Page => page_of(alloc, rest),
+        Keyword::Dir => dir_of(alloc, rest),
+        Keyword::File => file_of(alloc, rest),
+        Keyword::Bytes => bytes_of(alloc, rest),
         Keyword::Poke => poke_of(alloc, rest),
         Keyword::Call => Ok(call_of(abi, rest)),
         Keyword::Advance => Ok(advance_of(rest)),

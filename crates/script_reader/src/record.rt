@@ -1,7 +1,7 @@
 //! What a line of a script says.
 
 use abi_registers::Registers;
-use kernel_values::{AbiKind, Credentials, Usage};
+use kernel_values::{AbiKind, ByteList, Credentials, PathText, Usage};
 
 /// What a line says that isn't passed over.
 #[derive(Drop)]
@@ -33,6 +33,23 @@ pub enum Record {
         at: u32,
         writable: bool,
         bytes: Vec<u8>,
+    },
+    /// A directory of the image, at a path from the root.
+    Dir {
+        path: PathText,
+        inode: u64,
+    },
+    /// A file of the image and how many bytes it has, at most 2^40.
+    File {
+        path: PathText,
+        inode: u64,
+        size: u64,
+    },
+    /// Bytes of a file of the image, from an offset on.
+    Bytes {
+        path: PathText,
+        offset: u64,
+        bytes: ByteList,
     },
     /// Bytes in mapped pages, whatever their rights.
     Poke {

@@ -4,7 +4,7 @@ ghost use Rattle.std.specs.Prelude.{◌≡◌, ℕ, ◌+◌, ◌^◌, ◌<◌, �
 ghost use Rattle.io_edge.specs.Told.{put_back};
 ghost use Rattle.script_reader.specs.Ahead.{bytes_of, IsSound};
 ghost use Rattle.script_reader.specs.Script.{next_from};
-ghost use Rattle.script_reader.specs.Reads.{new_script, next_in, script_left, next_ahead, Answers, Counts, IsFound, IsNextOf, state_after, IsEndOf};
+ghost use Rattle.script_reader.specs.Reads.{new_script, next_in, script_left, next_ahead, read_count, Answers, TakesFew, Counts, IsFound, IsNextOf, state_after, IsEndOf};
 
 use crate::ahead::{Ahead, Stop, line_end};
 use crate::fault::{LineCause, ScriptFault};
@@ -71,7 +71,8 @@ fn read_record<S: Source>(
     ensures lines { seen.new.lines ≤ ahead.new.count }
     ensures goes_on { IfOk result (λ found. OnSome found (ahead.old.count < ahead.new.count)) }
     ensures took { (piece : List ℕ) × (S.left source.old ≡ put_back piece (S.left source.new))
-        × Answers (next_from seen.old [] ahead.old.count (bytes_of ahead.old ++ piece)) (S.left source.new) result (state_after result seen.new ahead.new) }
+        × Answers (next_from seen.old [] ahead.old.count (bytes_of ahead.old ++ piece)) (S.left source.new) result (state_after result seen.new ahead.new)
+        × TakesFew (ahead.old.count + length (bytes_of ahead.old)) (length piece) result (ahead.new.count + length (bytes_of ahead.new)) }
     ensures unread { IsFound (next_from seen.old [] ahead.old.count (bytes_of ahead.old)) → source.new ≡ source.old }
     ensures counts { Counts result (S.faults source.old) (S.faults source.new) }
 {
@@ -114,7 +115,7 @@ impl Script {
     {
         Ok(Script {
             alloc,
-            seen: Seen::new(alloc),
+            seen: Seen::new(alloc)?,
             ahead: Ahead::new(alloc),
             alive: true,
         })
@@ -135,9 +136,11 @@ impl Script {
     pub fn next_record<S: Source>(&mut self, source: &mut S) -> Result<Option<Record>, ScriptFault>
         requires { self.old.alive ≡ true }
 
-        // The bytes that the call took follow those read ahead, and the answer is what comes first in both.
+        // The bytes that the call took follow those read ahead, and the answer is what comes first in both. All calls
+        // together take at most 2^28 + 1.
         ensures took { (piece : List ℕ) × (S.left source.old ≡ put_back piece (S.left source.new))
-            × Answers (next_in self.old piece) (S.left source.new) result self.new }
+            × Answers (next_in self.old piece) (S.left source.new) result self.new
+            × TakesFew (read_count self.old) (length piece) result (read_count self.new) }
         ensures counts { Counts result (S.faults source.old) (S.faults source.new) }
 
         // The source is read only where the bytes read ahead hold neither a whole record nor a fault.

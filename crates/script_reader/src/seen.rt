@@ -1,14 +1,16 @@
 //! What has been seen of a script, and whether a line may stand at its place.
 
-ghost use Rattle.std.specs.Prelude.{◌≡◌, ◌+◌, ◌/◌, ◌^◌, ◌<◌, ◌≤◌, ◌||◌, nat_le, length, IfOk, IfSome, OnOk};
+ghost use Rattle.std.specs.Prelude.{◌≡◌, ◌+◌, ◌/◌, ◌^◌, ◌<◌, ◌≤◌, ◌||◌, not, nat_le, length, IfOk, IfSome, OnOk};
 ghost use Rattle.std.specs.BTreeSet.{btree_set_len};
+ghost use Rattle.file_store.specs.Image.{is_free_name, has_bytes, image_directory, image_file};
 ghost use Rattle.script_reader.specs.Grammar.{line_of, said_by, IsInRange};
 ghost use Rattle.script_reader.specs.Seen.{new_seen, has_page, is_covered, image_fault, misplaced, seen_with, is_passed, said, line_told, told_by};
 
 use crate::fault::LineCause;
 use crate::grammar::{abi_in, read_line};
 use crate::record::Record;
-use kernel_values::{AbiKind, OutOfMemory};
+use file_store::Files;
+use kernel_values::{AbiKind, KernelFault, OutOfMemory};
 use std::alloc::Global;
 use std::collections::BTreeSet;
 
@@ -72,14 +74,17 @@ pub struct Seen {
     pub begun: bool,
     /// The numbers of the pages that are mapped.
     pub pages: BTreeSet<u32>,
+    /// The directories and files of the image; of their bytes only how many.
+    pub files: Files,
 }
 
 impl Seen {
     /// Nothing seen.
-    pub fn new(alloc: Global) -> Seen
-        ensures { result ≡ new_seen }
+    pub fn new(alloc: Global) -> Result<Seen, OutOfMemory>
+        ensures { IfOk result (λ s. s ≡ new_seen) }
     {
-        Seen {
+        let files = Files::new(alloc)?;
+        Ok(Seen {
             lines: 0,
             abi: None,
             clock: false,
@@ -88,7 +93,8 @@ impl Seen {
             restorer: false,
             begun: false,
             pages: BTreeSet::new(alloc),
-        }
+            files,
+        })
     }
 
     /// Whether each byte of a range is in a page that is mapped, and the range doesn't pass 2^32. Each page is looked up
@@ -143,6 +149,20 @@ impl Seen {
             Record::Page { at, .. } => self.image_fault(self.is_page_given(page_number(
                 *at as usize,
             ))),
+            Record::Dir { path, inode } | Record::File { path, inode, .. } => {
+                let free = self.files.is_free_name(path.as_slice(), *inode);
+                self.image_fault(!free)
+            }
+            Record::Bytes {
+                path,
+                offset,
+                bytes,
+            } => {
+                let there = self
+                    .files
+                    .has_bytes(path.as_slice(), *offset, bytes.len() as u64);
+                self.image_fault(!there)
+            }
             Record::Poke { at, bytes } => {
                 if self.covers(*at, bytes.len()) {
                     None
@@ -155,8 +175,36 @@ impl Seen {
         }
     }
 
+    /// Puts a directory into the image. Where that is refused the line is misplaced, and the image stays.
+    fn see_directory(&mut self, alloc: Global, path: &[u8], inode: u64) -> Result<(), OutOfMemory>
+        ensures seen { OnOk result (self.new ≡ record self.old { files = (image_directory self.old.files path.now inode).1 }) }
+        ensures lines { self.new.lines ≡ self.old.lines }
+    {
+        match self.files.image_directory(alloc, path, inode) {
+            Ok(()) | Err(KernelFault::Errno(_)) => Ok(()),
+            Err(KernelFault::OutOfMemory) => Err(OutOfMemory),
+        }
+    }
+
+    /// Puts a file into the image. Where that is refused the line is misplaced, and the image stays.
+    fn see_file(
+        &mut self,
+        alloc: Global,
+        path: &[u8],
+        inode: u64,
+        size: u64,
+    ) -> Result<(), OutOfMemory>
+        ensures seen { OnOk result (self.new ≡ record self.old { files = (image_file self.old.files path.now inode size).1 }) }
+        ensures lines { self.new.lines ≡ self.old.lines }
+    {
+        match self.files.image_file(alloc, path, inode, size) {
+            Ok(()) | Err(KernelFault::Errno(_)) => Ok(()),
+            Err(KernelFault::OutOfMemory) => Err(OutOfMemory),
+        }
+    }
+
     /// Sees a line that may stand here.
-    fn see(&mut self, entry: &Record) -> Result<(), OutOfMemory>
+    fn see(&mut self, alloc: Global, entry: &Record) -> Result<(), OutOfMemory>
         ensures seen { OnOk result (self.new ≡ seen_with self.old (line_of entry.now)) }
         ensures lines { self.new.lines ≡ self.old.lines }
     {
@@ -169,7 +217,13 @@ impl Seen {
             Record::Page { at, .. } => {
                 self.pages.insert(page_number(*at as usize))?;
             }
-            Record::Poke { .. } => {}
+            Record::Dir { path, inode } => {
+                self.see_directory(alloc, path.as_slice(), *inode)?;
+            }
+            Record::File { path, inode, size } => {
+                self.see_file(alloc, path.as_slice(), *inode, *size)?;
+            }
+            Record::Bytes { .. } | Record::Poke { .. } => {}
             Record::Call { .. } | Record::Advance { .. } | Record::Show => self.begun = true,
         }
         Ok(())
@@ -201,7 +255,7 @@ impl Seen {
             return Ok(Err(cause));
         }
         self.lines += 1;
-        self.see(&record)?;
+        self.see(alloc, &record)?;
         Ok(Ok(Some(record)))
     }
 }

@@ -76,7 +76,7 @@ fn words_and_counts(rt: HostRuntime) -> Result<(), Fail> {
         &[
             (b"abi arm 1\n show\n", 1, bad(2, LineCause::Word)),
             (b"abi arm 1\n #\n", 1, bad(2, LineCause::Word)),
-            (b"abi arm 1\ndir /d 5\n", 1, bad(2, LineCause::Word)),
+            (b"abi arm 1\nDir /d 5\n", 1, bad(2, LineCause::Word)),
             (b"abi arm 1\nshow\r\n", 1, bad(2, LineCause::Word)),
             (b"abi arm 1\nshow \n", 1, bad(2, LineCause::Count)),
             (b"abi arm 1\nclock\n", 1, bad(2, LineCause::Count)),
@@ -306,5 +306,136 @@ fn records_say_what_their_lines_say(rt: HostRuntime) -> Result<(), Fail> {
         registers,
         Registers::Ia32([1, 2, 3, 4, 5, 6, 7, 8, 9, u32::MAX])
     );
+    Ok(())
+}
+
+/// Why the last line behind the header is bad, and no cause where all are good.
+fn last_cause(alloc: Global, lines: &[u8]) -> Option<Option<LineCause>> {
+    let mut script = Vec::from_slice(alloc, b"abi arm 1\n").ok()?;
+    script.extend_from_slice(lines).ok()?;
+    let before = script[..script.len() - 1]
+        .iter()
+        .filter(|b| **b == b'\n')
+        .count();
+    match read_all(alloc, &script, 1000)? {
+        (_, None) => Some(None),
+        (_, Some(ScriptFault::BadLine { line, cause })) if line == before as u64 + 1 => Some(Some(
+            cause,
+        )),
+        _ => None,
+    }
+}
+
+fn causes(
+    rt: &impl Abort,
+    alloc: Global,
+    cases: &[(&[u8], Option<LineCause>)],
+) -> Result<(), Fail> {
+    for (lines, cause) in cases {
+        assert_eq!(rt; last_cause(alloc, lines).ok_or("no last line")?, *cause);
+    }
+    Ok(())
+}
+
+#[test]
+fn lines_of_files_have_their_fields(rt: HostRuntime) -> Result<(), Fail> {
+    causes(
+        &rt,
+        rt.alloc(),
+        &[
+            (b"dir /!~ 7fffffffffffffff\n", None),
+            (b"file /... 0000000000000001 10000000000\n", None),
+            (b"dir /d 5", Some(LineCause::Unended)),
+            (b"dir /d\n", Some(LineCause::Count)),
+            (b"file /f 5\n", Some(LineCause::Count)),
+            (b"data /f 0 00 \n", Some(LineCause::Count)),
+            (b"dir /d 0\n", Some(LineCause::Field)),
+            (b"dir /d 8000000000000000\n", Some(LineCause::Field)),
+            (b"dir /d 00000000000000005\n", Some(LineCause::Field)),
+            (b"file /f 5 10000000001\n", Some(LineCause::Field)),
+            (b"data /f 0 0\n", Some(LineCause::Field)),
+            (b"data /f 0 \n", Some(LineCause::Field)),
+        ],
+    )
+}
+
+#[test]
+fn paths_are_names_behind_slashes(rt: HostRuntime) -> Result<(), Fail> {
+    let alloc = rt.alloc();
+    causes(
+        &rt,
+        alloc,
+        &[
+            (b"dir /d 5\ndir /d/.d 6\n", None),
+            (b"dir / 5\n", Some(LineCause::Field)),
+            (b"dir  5\n", Some(LineCause::Field)),
+            (b"dir d 5\n", Some(LineCause::Field)),
+            (b"dir //d 5\n", Some(LineCause::Field)),
+            (b"dir /d/ 5\n", Some(LineCause::Field)),
+            (b"dir /. 5\n", Some(LineCause::Field)),
+            (b"file /../f 5 0\n", Some(LineCause::Field)),
+            (b"file /\x7f 5 0\n", Some(LineCause::Field)),
+            (b"data /\t 0 -\n", Some(LineCause::Field)),
+        ],
+    )?;
+    for (length, cause) in [(255, None), (256, Some(LineCause::Field))] {
+        let mut line = Vec::from_slice(alloc, b"dir /")?;
+        line.extend_from_slice(&vec![in alloc; b'n'; length]?)?;
+        line.extend_from_slice(b" 5\n")?;
+        assert_eq!(rt; last_cause(alloc, &line).ok_or("no last line")?, cause);
+    }
+    Ok(())
+}
+
+#[test]
+fn lines_of_files_have_their_places(rt: HostRuntime) -> Result<(), Fail> {
+    causes(
+        &rt,
+        rt.alloc(),
+        &[
+            (b"show\ndir /d 0\n", Some(LineCause::Field)),
+            (b"show\ndir /d 2\n", Some(LineCause::Order)),
+            (b"advance 0\nfile /f 5 0\n", Some(LineCause::Order)),
+            (b"show\ndata /f 0 -\n", Some(LineCause::Order)),
+            (b"dir /d 2\n", Some(LineCause::Image)),
+            (b"dir /d 5\nfile /f 5 0\n", Some(LineCause::Image)),
+            (b"file /f 5 0\ndir /f 6\n", Some(LineCause::Image)),
+            (b"file /d/f 5 0\n", Some(LineCause::Image)),
+            (b"file /f 5 0\ndir /f/d 6\n", Some(LineCause::Image)),
+        ],
+    )
+}
+
+#[test]
+fn data_lies_in_a_file(rt: HostRuntime) -> Result<(), Fail> {
+    causes(
+        &rt,
+        rt.alloc(),
+        &[
+            (
+                b"dir /d 5\nfile /d/f 6 4\ndata /d/f 3 00\ndata /d/f 4 -\n",
+                None,
+            ),
+            (b"file /f 5 4\ndata /f 3 0000\n", Some(LineCause::Image)),
+            (b"file /f 5 4\ndata /f 5 -\n", Some(LineCause::Image)),
+            (
+                b"file /f 5 4\ndata /f ffffffffffffffff 00\n",
+                Some(LineCause::Image),
+            ),
+            (b"file /f 5 4\ndata /g 0 -\n", Some(LineCause::Image)),
+            (b"dir /d 5\ndata /d 0 -\n", Some(LineCause::Image)),
+        ],
+    )
+}
+
+#[test]
+fn records_of_files_say_what_their_lines_say(rt: HostRuntime) -> Result<(), Fail> {
+    let alloc = rt.alloc();
+    let file = record_of(alloc, b"abi arm 1\nfile /f 1F 20\n").ok_or("file")?;
+    let Record::File { path, inode, size } = file else {
+        return Err("file")?;
+    };
+    assert_eq!(rt; path.as_slice(), b"/f".as_slice());
+    assert_eq!(rt; (inode, size), (31, 32));
     Ok(())
 }

@@ -7,3 +7,4 @@ pub mod Kept
 pub mod Calls
 pub mod Stores
 pub mod StoredPlaces
+pub mod Prefixes

@@ -43,7 +43,7 @@ list_from-add at (suc m) a n =
     let start : a + suc m ≡ (a + 1) + m = omega arith in
     rw (count, start) (ap (λ (bs : List ℕ). at a ∷ bs) (list_from-add at m (a + 1) n))
 
-length-list_from : (at : ℕ → ℕ) (a n : ℕ) → length (list_from at a n) ≡ n
+pub length-list_from : (at : ℕ → ℕ) (a n : ℕ) → length (list_from at a n) ≡ n
 unfolding list_from
 length-list_from at a zero = refl
 length-list_from at a (suc n) = ap suc (length-list_from at (a + 1) n)

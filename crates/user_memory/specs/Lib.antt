@@ -4,3 +4,4 @@ pub mod Changes
 pub mod Places
 pub mod States
 pub mod Rights
+pub mod Prefixes

@@ -8,10 +8,12 @@ mod page;
 mod pages;
 mod rights;
 mod search;
+mod text;
 
 pub use change::Change;
 pub use memory::{Fault, MapFault, UserMemory};
 pub use rights::Rights;
+pub use text::TextFault;
 
 #[cfg(test)]
 mod tests;

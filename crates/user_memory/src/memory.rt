@@ -1,15 +1,17 @@
 //! User memory and its calls.
 
-ghost use Rattle.std.specs.Prelude.{◌≡◌, ℕ, ◌+◌, ◌*◌, ◌^◌, ◌<◌, ◌≤◌, ◌↔◌, ◌&&◌, nat_le, [], ◌∷◌, length, true, false, IfOk, OnOk, OnErr, IfSome, MatchOption, is_ok, Ok, Err};
+ghost use Rattle.std.specs.Prelude.{◌≡◌, ℕ, ◌+◌, ◌*◌, ◌^◌, ◌<◌, ◌≤◌, ◌↔◌, ◌&&◌, nat_le, [], ◌∷◌, length, take, drop, true, false, IfOk, IfErr, OnOk, OnErr, IfSome, MatchOption, is_ok, Ok, Err};
 ghost use Rattle.user_memory.specs.Pages.{page_at, is_page, with_page, marked};
 ghost use Rattle.user_memory.specs.Memory.{is_readable, is_writable, all_pass, bytes_at, with_bytes};
 ghost use Rattle.user_memory.specs.Changes.{changes};
+ghost use Rattle.user_memory.specs.Prefixes.{readable_prefix, writable_prefix, text_at};
 ghost use Rattle.user_memory.specs.Rights.{allows_stores, has_rights};
 
 use crate::change::Change;
 use crate::page::Page;
 use crate::rights::Rights;
-use crate::{pages, search};
+use crate::text::TextFault;
+use crate::{pages, search, text};
 use kernel_values::OutOfMemory;
 use std::alloc::Global;
 use std::marker::Model;
@@ -122,6 +124,42 @@ impl UserMemory {
         };
         pages::copy(&self.pages, place, at, into);
         Ok(())
+    }
+
+    /// How many bytes of a range stand before the first that may not be read.
+    ///
+    /// The range is cut at 2^32.
+    #[tactic(auto, unfolding(crate::specs::Prefixes::readable_prefix))]
+    pub fn readable_prefix(&self, at: u32, n: u32) -> u32
+        ensures value { result ≡ readable_prefix self.now at n }
+        ensures readable { is_readable self.now at result ≡ true }
+    {
+        pages::prefix_of_range(&self.pages, at, n as usize, Rights::Read).length as u32
+    }
+
+    /// How many bytes of a range stand before the first that may not be stored to.
+    ///
+    /// The range is cut at 2^32.
+    #[tactic(auto, unfolding(crate::specs::Prefixes::writable_prefix))]
+    pub fn writable_prefix(&self, at: u32, n: u32) -> u32
+        ensures value { result ≡ writable_prefix self.now at n }
+        ensures writable { is_writable self.now at result ≡ true }
+    {
+        pages::prefix_of_range(&self.pages, at, n as usize, Rights::ReadWrite).length as u32
+    }
+
+    /// Copies the text from an address on, the bytes before its first zero, to the front of `into`, without the zero.
+    ///
+    /// The result is how many bytes it has. The text has at most `into.len()` bytes, its zero among them. The bytes of `into` behind it,
+    /// and all on an `Err`, are as before.
+    pub fn text_in(&self, at: u32, into: &mut [u8]) -> Result<usize, TextFault>
+        ensures text { IfOk result (λ n. text_at self.now at (length into.old) ≡ Ok (take n into.new)) }
+        ensures within { IfOk result (λ n. n < length into.old) }
+        ensures rest { IfOk result (λ n. drop n into.new ≡ drop n into.old) }
+        ensures fault { IfErr result (λ fault. text_at self.now at (length into.old) ≡ Err fault) }
+        ensures unchanged { OnErr result (into.new ≡ into.old) }
+    {
+        text::text_in(&self.pages, at, into)
     }
 
     /// Stores all of `from` from an address on, where each byte's page has the rights, and keeps the places of these pages.

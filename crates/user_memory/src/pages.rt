@@ -8,6 +8,7 @@ ghost use Rattle.std.specs.Option.{option_map};
 ghost use Rattle.user_memory.specs.Pages.{page_at, is_page, marked, zero_page, new_page as zeroed, mark_of, IsAscending};
 ghost use Rattle.user_memory.specs.Memory.{bytes_at, all_pass, with_bytes};
 ghost use Rattle.user_memory.specs.Places.{IsPlaceOf, IsGapFor, IsPlaceFrom, ArePlacesOf};
+ghost use Rattle.user_memory.specs.Prefixes.{passing};
 ghost use Rattle.user_memory.specs.Rights.{has_rights};
 ghost use Rattle.user_memory.specs.States.{state_of, states_of, TellsStores, AreStoredWithin};
 
@@ -58,37 +59,67 @@ fn is_allowed(pages: &[Page], place: usize, at: usize, rights: Rights) -> bool
 }
 
 /// How many of the bytes from an address on are in its page.
-fn length_in_page(at: usize, length: usize) -> usize
+pub fn length_in_page(at: usize, length: usize) -> usize
     ensures { result ≡ min length (4096 - at % 4096) }
 {
     length.min(PAGE_SIZE - at % PAGE_SIZE)
 }
 
+/// The first bytes of a range: how many they are, and where their pages stand.
+#[derive(Clone, Copy)]
+pub struct Span {
+    /// The place of the first page. Each other one stands behind the one before it.
+    pub place: usize,
+    pub length: usize,
+}
+
+/// The bytes of a range below 2^32 before the first whose page lacks the rights.
+///
+/// The first page is searched, and each other one stands behind the one before it. Where there are no such bytes, the place is
+/// that from which on pages aren't below the range's address.
+pub fn prefix_of_range(pages: &[Page], at: u32, length: usize, rights: Rights) -> Span
+    requires { IsAscending (states_of pages.now) }
+    ensures length { result.length ≡ passing (has_rights rights (states_of pages.now)) at (min length (2 ^ 32 - at)) }
+    ensures within { at + result.length ≤ 2 ^ 32 }
+    ensures allowed { (nat_le (at + result.length) (2 ^ 32)
+        && all_pass (has_rights rights (states_of pages.now)) at result.length) ≡ true }
+    ensures placed { ArePlacesOf pages.now at result.length result.place }
+{
+    let start = at as usize;
+    let end = length.min(END - start);
+    let first = place_from(pages, at / PAGE_SIZE as u32);
+    let mut place = first;
+    let mut done = 0;
+    while done < end {
+        if !is_allowed(pages, place, start + done, rights) {
+            return Span {
+                place: first,
+                length: done,
+            };
+        }
+        done += length_in_page(start + done, end - done);
+        place += 1;
+    }
+    Span {
+        place: first,
+        length: end,
+    }
+}
+
 /// The place of a range's first page, where each byte of the range has the rights and it doesn't pass 2^32.
 ///
-/// The first page is searched, and each other one stands behind the one before it. For a range of no bytes it is
-/// the place from which on pages aren't below its address.
+/// For a range of no bytes it is the place from which on pages aren't below its address.
 pub fn place_of_range(pages: &[Page], at: u32, length: usize, rights: Rights) -> Option<usize>
     requires { IsAscending (states_of pages.now) }
     ensures allowed { is_some result ≡ (nat_le (at + length) (2 ^ 32)
         && all_pass (has_rights rights (states_of pages.now)) at length) }
     ensures placed { IfSome result (λ i. ArePlacesOf pages.now at length i) }
 {
-    let start = at as usize;
-    if length > END - start {
+    let prefix = prefix_of_range(pages, at, length, rights);
+    if prefix.length < length {
         return None;
     }
-    let first = place_from(pages, at / PAGE_SIZE as u32);
-    let mut place = first;
-    let mut done = 0;
-    while done < length {
-        if !is_allowed(pages, place, start + done, rights) {
-            return None;
-        }
-        done += length_in_page(start + done, length - done);
-        place += 1;
-    }
-    Some(first)
+    Some(prefix.place)
 }
 
 /// Copies the bytes of a range within one page, which stands at `place`.

@@ -69,6 +69,70 @@ fn a_range_may_end_at_the_end_of_all_addresses(rt: HostRuntime) -> Result<(), Fa
 }
 
 #[test]
+fn a_prefix_ends_where_a_right_does(rt: HostRuntime) -> Result<(), Fail> {
+    let memory = mapped(&rt).ok_or("memory")?;
+    assert_eq!(rt; memory.readable_prefix(0x1ff0, 0x4000), 0x2010);
+    assert_eq!(rt; memory.writable_prefix(0x1ff0, 0x4000), 0x1010);
+    assert_eq!(rt; memory.writable_prefix(0x1ff0, 0x1010), 0x1010);
+    assert_eq!(rt; memory.writable_prefix(0x3000, 1), 0);
+    assert_eq!(rt; memory.readable_prefix(0x3000, 0), 0);
+    assert_eq!(rt; memory.readable_prefix(0xfff, 2), 0);
+    Ok(())
+}
+
+#[test]
+fn a_prefix_ends_at_the_end_of_all_addresses(rt: HostRuntime) -> Result<(), Fail> {
+    let memory = mapped(&rt).ok_or("memory")?;
+    assert_eq!(rt; memory.readable_prefix(0xffff_fff0, 16), 16);
+    assert_eq!(rt; memory.readable_prefix(0xffff_fff0, 17), 16);
+    assert_eq!(rt; memory.writable_prefix(0xffff_f000, u32::MAX), 4096);
+    Ok(())
+}
+
+#[test]
+fn a_text_ends_at_its_zero(rt: HostRuntime) -> Result<(), Fail> {
+    let mut memory = mapped(&rt).ok_or("memory")?;
+    assert_eq!(rt; memory.copy_out(0x1ffe, b"abc"), Ok(()));
+    let mut into = [7u8; 6];
+    assert_eq!(rt; memory.text_in(0x1ffe, &mut into), Ok(3));
+    assert_eq!(rt; into, [97, 98, 99, 7, 7, 7]);
+    assert_eq!(rt; memory.text_in(0x1000, &mut into), Ok(0));
+    assert_eq!(rt; into, [97, 98, 99, 7, 7, 7]);
+    Ok(())
+}
+
+#[test]
+fn a_text_has_room_for_its_zero(rt: HostRuntime) -> Result<(), Fail> {
+    let mut memory = mapped(&rt).ok_or("memory")?;
+    assert_eq!(rt; memory.copy_out(0x1ffe, b"abc"), Ok(()));
+    let mut three = [7u8; 3];
+    assert_eq!(rt; memory.text_in(0x1ffe, &mut three), Err(TextFault::TooLong));
+    assert_eq!(rt; three, [7, 7, 7]);
+    let mut four = [7u8; 4];
+    assert_eq!(rt; memory.text_in(0x1ffe, &mut four), Ok(3));
+    assert_eq!(rt; four, [97, 98, 99, 7]);
+    assert_eq!(rt; memory.text_in(0x8000, &mut []), Err(TextFault::TooLong));
+    Ok(())
+}
+
+#[test]
+fn a_fault_behind_the_zero_does_not_matter(rt: HostRuntime) -> Result<(), Fail> {
+    let mut memory = mapped(&rt).ok_or("memory")?;
+    assert_eq!(rt; memory.poke(0x3ffc, b"abc"), Ok(()));
+    let mut into = [7u8; 6];
+    assert_eq!(rt; memory.text_in(0x3ffc, &mut into), Ok(3));
+    assert_eq!(rt; memory.poke(0x3fff, b"d"), Ok(()));
+    assert_eq!(rt; memory.text_in(0x3ffc, &mut into), Err(TextFault::Fault));
+    assert_eq!(rt; memory.copy_out(0xffff_ffff, b"z"), Ok(()));
+    assert_eq!(rt;
+        memory.text_in(0xffff_ffff, &mut into),
+        Err(TextFault::Fault)
+    );
+    assert_eq!(rt; into, [97, 98, 99, 7, 7, 7]);
+    Ok(())
+}
+
+#[test]
 fn a_poke_ignores_rights(rt: HostRuntime) -> Result<(), Fail> {
     let mut memory = mapped(&rt).ok_or("memory")?;
     assert_eq!(rt; memory.poke(0x2ffe, b"wxyz"), Ok(()));

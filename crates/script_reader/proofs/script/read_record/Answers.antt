@@ -8,7 +8,7 @@ use Rattle.script_reader.proofs.ReadSteps.{taken_read, taken_lost, found_no_end}
 use Rattle.script_reader.proofs.script.read_record.Goals as goal
 
 pub returns-in-Err-read-clause-took : goal.returns-in-Err-read-clause-took
-returns-in-Err-read-clause-took g c = taken_lost (g.S.Source.left c.args.source.now) (g.S.Source.left c.loop-i.source) (g.S.Source.left c.read.new.source) c.args.seen.now c.args.ahead.now.count (bytes_of c.args.ahead.now) (next_from c.loop-i.seen (take c.loop-i.from (bytes_of c.loop-i.ahead)) (c.loop-i.ahead.count + c.loop-i.from) (drop c.loop-i.from (bytes_of c.loop-i.ahead))) c.in-Err-read.fault (g.S.Source.faults c.loop-i.source) (g.S.Source.faults c.read.new.source) (state_after (Err c.in-Err-read.fault) c.loop-i.seen c.read.new.self) c.loop-i.invariant.taken c.in-Err-read.ensures.lost c.in-Err-read.ensures.fault refl
+returns-in-Err-read-clause-took g c = taken_lost (g.S.Source.left c.args.source.now) (g.S.Source.left c.loop-i.source) (g.S.Source.left c.read.new.source) c.args.seen.now c.args.ahead.now.count (bytes_of c.args.ahead.now) (c.loop-i.ahead.count + length (bytes_of c.loop-i.ahead)) (next_from c.loop-i.seen (take c.loop-i.from (bytes_of c.loop-i.ahead)) (c.loop-i.ahead.count + c.loop-i.from) (drop c.loop-i.from (bytes_of c.loop-i.ahead))) c.in-Err-read.fault (g.S.Source.faults c.loop-i.source) (g.S.Source.faults c.read.new.source) (state_after (Err c.in-Err-read.fault) c.loop-i.seen c.read.new.self) (c.read.new.self.count + length (bytes_of c.read.new.self)) c.loop-i.invariant.taken c.in-Err-read.ensures.lost c.in-Err-read.ensures.fault refl
 
 pub loop-i-preserved : goal.loop-i-preserved
 loop-i-preserved g c =

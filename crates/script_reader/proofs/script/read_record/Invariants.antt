@@ -14,7 +14,7 @@ invariant-loop-i g l = record {
   goes_on : l.fn.ahead.count ≤ l.ahead.count;
   faults : g.S.Source.faults l.source ≡ g.S.Source.faults l.fn.source;
   unread : IsFound (next_from l.fn.seen [] l.fn.ahead.count (bytes_of l.fn.ahead)) → IsUnread l.fn.source l.source (next_from l.fn.seen [] l.fn.ahead.count (bytes_of l.fn.ahead)) (next_from l.seen (take l.from (bytes_of l.ahead)) (l.ahead.count + l.from) (drop l.from (bytes_of l.ahead)));
-  taken : HasTaken (g.S.Source.left l.fn.source) (g.S.Source.left l.source) l.fn.seen l.fn.ahead.count (bytes_of l.fn.ahead) (next_from l.seen (take l.from (bytes_of l.ahead)) (l.ahead.count + l.from) (drop l.from (bytes_of l.ahead)));
+  taken : HasTaken (g.S.Source.left l.fn.source) (g.S.Source.left l.source) l.fn.seen l.fn.ahead.count (bytes_of l.fn.ahead) (l.ahead.count + length (bytes_of l.ahead)) (next_from l.seen (take l.from (bytes_of l.ahead)) (l.ahead.count + l.from) (drop l.from (bytes_of l.ahead)));
 }
 
 -- bytes that were not read, and bytes that are not done with

@@ -1,61 +1,13 @@
-use Rattle.std.proofs.Common.{◌≡◌, ◌+◌, ◌-◌, ◌/◌, ◌^◌, ◌∙◌, ℕ, refl, subst, sym, inl, inr, arith}
-use Rattle.std.proofs.lemmas.Bool.{le-leb, cases_lt}
-use Rattle.user_memory.specs.Places.{IsPlaceOf, IsPlaceFrom}
+use Rattle.std.proofs.Common.{sym, arith}
 use Rattle.user_memory.specs.Rights.{has_rights}
 use Rattle.user_memory.specs.States.{states_of}
-use Rattle.user_memory.proofs.Places.{next_place, same_rights}
-use Rattle.user_memory.proofs.Ranges.{all_from, one_fails}
+use Rattle.user_memory.proofs.Prefixes.{short_range, whole_range}
 use Rattle.user_memory.proofs.pages.place_of_range.Goals as goal
 
-pub loop-done-init : goal.loop-done-init
-loop-done-init c =
-    let number : c.args.at / 4096 + (c.place_from-first.result - c.place_from-first.result) ≡ c.args.at / 4096 = omega arith in
-    record {
-      within = omega arith;
-      after = omega arith;
-      next = subst (λ (n : ℕ). IsPlaceFrom c.args.pages.now n c.place_from-first.result) (sym number) c.place_from-first.ensures;
-      here = λ some. omega arith;
-      allowed = λ a lo hi. absurd (omega arith);
-      placed = λ a lo hi. absurd (omega arith);
-    }
-
-pub is_allowed-requires-clause-place : goal.is_allowed-requires-clause-place
-is_allowed-requires-clause-place c =
-    let here : (c.args.at + c.loop-done.done) / 4096 ≡ c.args.at / 4096 + (c.loop-done.place - c.place_from-first.result) = c.loop-done.invariant.here (omega arith) in
-    subst (λ (n : ℕ). IsPlaceFrom c.args.pages.now n c.loop-done.place) (sym here) c.loop-done.invariant.next
-
-pub returns-then-not-is_allowed-clause-allowed : goal.returns-then-not-is_allowed-clause-allowed
-returns-then-not-is_allowed-clause-allowed c =
-    let fails = one_fails c.args.length (has_rights c.args.rights (states_of c.args.pages.now)) c.args.at (c.args.at + c.loop-done.done) (omega arith) (omega arith) (sym c.if-not-is_allowed.ensures.allowed) in
-    rw (le-leb (c.args.at + c.args.length) (2 ^ 32) (omega arith), fails) refl
-
-pub loop-done-preserved : goal.loop-done-preserved
-loop-done-preserved c =
-    let old = c.loop-done.invariant in
-    let first = c.place_from-first.result in
-    let start = c.args.at + c.loop-done.done in
-    let here : start / 4096 ≡ c.args.at / 4096 + (c.loop-done.place - first) = old.here (omega arith) in
-    let place : IsPlaceOf c.args.pages.now (start / 4096) c.loop-done.place = c.if-not-is_allowed.ensures.placed refl in
-    let number : start / 4096 + 1 ≡ c.args.at / 4096 + ((c.loop-done.place + 1) - first) = omega (arith, old.after) in
-    record {
-      within = omega arith;
-      after = omega (arith, old.after);
-      next = subst (λ (n : ℕ). IsPlaceFrom c.args.pages.now n (c.loop-done.place + 1)) number (next_place c.args.pages.now (start / 4096) c.loop-done.place c.requires place);
-      here = λ some. omega (arith, here, old.after);
-      allowed = λ a lo hi. elim (cases_lt a start) [
-        | inl before ↦ old.allowed a lo before
-        | inr from ↦ let page : a / 4096 ≡ start / 4096 = omega arith in same_rights c.args.rights (states_of c.args.pages.now) a start page ∙ sym c.if-not-is_allowed.ensures.allowed
-      ];
-      placed = λ a lo hi. elim (cases_lt a start) [
-        | inl before ↦ old.placed a lo before
-        | inr from ↦
-            let page : start / 4096 ≡ a / 4096 = omega arith in
-            let index : c.loop-done.place ≡ first + (a / 4096 - c.args.at / 4096) = omega (arith, old.after) in
-            subst (λ (i : ℕ). IsPlaceOf c.args.pages.now (a / 4096) i) index (subst (λ (n : ℕ). IsPlaceOf c.args.pages.now n c.loop-done.place) page place)
-      ];
-    }
+pub returns-then-prefix-length-clause-allowed : goal.returns-then-prefix-length-clause-allowed
+returns-then-prefix-length-clause-allowed c =
+    sym (short_range (has_rights c.args.rights (states_of c.args.pages.now)) c.args.at c.args.length c.prefix_of_range-prefix.result.length c.prefix_of_range-prefix.ensures.length (omega arith))
 
 pub returns-clause-allowed : goal.returns-clause-allowed
 returns-clause-allowed c =
-    let all = all_from c.args.length (has_rights c.args.rights (states_of c.args.pages.now)) c.args.at (λ a from_a below. c.loop-done.invariant.allowed a from_a (omega arith)) in
-    rw (le-leb (c.args.at + c.args.length) (2 ^ 32) (omega arith), all) refl
+    sym (whole_range (has_rights c.args.rights (states_of c.args.pages.now)) c.args.at c.args.length c.prefix_of_range-prefix.result.length (omega arith) c.prefix_of_range-prefix.ensures.length (omega arith))

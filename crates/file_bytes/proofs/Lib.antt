@@ -1,0 +1,7 @@
+pub mod Rows
+pub mod Pieces
+pub mod Cuts
+pub mod Contents
+pub mod FirstPage
+pub mod NextRun
+pub mod Runs

@@ -1,0 +1,5 @@
+pub mod Table
+pub mod Row
+pub mod Pages
+pub mod Runs
+pub mod Search

@@ -1,0 +1,35 @@
+-- The commands of fcntl and fcntl64, by include/uapi/asm-generic/fcntl.h and include/uapi/linux/fcntl.h. None on locks is built.
+use Rattle.std.specs.Prelude.{ℕ, ℤ, pos, ◌==◌, true, false, Result, Ok, Err, if◌then◌else◌}
+use Rattle.kernel_values.specs.OpenFlags.{from_word, to_word}
+use Rattle.kernel_values.specs.declared.abi.AbiKind.{AbiKind}
+use Rattle.kernel_values.specs.declared.errno.Errno.{Errno}
+use Rattle.kernel_values.specs.declared.errno.Errno.TheVariants.{BadDescriptor, InvalidArgument}
+use Rattle.native_kernel.specs.declared.state.Kernel.{Kernel}
+use Rattle.native_kernel.specs.Operations as native
+use Rattle.file_calls.specs.declared.commands.Command.{Command}
+use Rattle.file_calls.specs.declared.commands.Command.TheVariants as commands
+
+-- F_DUPFD 0, F_GETFD 1, F_SETFD 2, F_GETFL 3, F_SETFL 4, F_DUPFD_CLOEXEC 1030
+unfoldable pub command_of : ℕ → Command
+command_of n =
+    if n == 0 then commands.Duplicate
+    else (if n == 1 then commands.DescriptorFlags
+    else (if n == 2 then commands.SetDescriptorFlags
+    else (if n == 3 then commands.OpenFlags
+    else (if n == 4 then commands.SetOpenFlags
+    else (if n == 1030 then commands.DuplicateCloseOnExec else commands.Other)))))
+
+-- an answer in another form
+abbrev pub answering : {A B S : Type 0} → (A → B) → Result A Errno × S → Result B Errno × S
+answering f (Ok x, s) = (Ok (f x), s)
+answering f (Err e, s) = (Err e, s)
+
+-- what a command asks of the kernel; one that there isn't is refused behind the test of the descriptor
+unfoldable pub asked : AbiKind → Kernel → ℤ → Command → ℕ → Result ℕ Errno × Kernel
+asked kind k fd commands.Duplicate argument = native.duplicate k fd (pos argument) false
+asked kind k fd commands.DescriptorFlags argument = native.fd_flags k fd
+asked kind k fd commands.SetDescriptorFlags argument = answering (λ _. 0) (native.set_fd_flags k fd argument)
+asked kind k fd commands.OpenFlags argument = answering (to_word kind) (native.open_flags k fd)
+asked kind k fd commands.SetOpenFlags argument = answering (λ _. 0) (native.set_open_flags k fd (from_word kind argument))
+asked kind k fd commands.DuplicateCloseOnExec argument = native.duplicate k fd (pos argument) true
+asked kind k fd commands.Other argument = (if native.can_use k fd false false then Err InvalidArgument else Err BadDescriptor, k)

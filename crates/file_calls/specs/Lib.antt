@@ -1,0 +1,4 @@
+pub mod Commands
+pub mod Descriptors
+pub mod Paths
+pub mod Transfers

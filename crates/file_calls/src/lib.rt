@@ -1,0 +1,9 @@
+//! The calls on files and descriptors: one function for each row.
+#![tactic(auto)]
+
+pub mod commands;
+pub mod descriptors;
+pub mod paths;
+#[cfg(test)]
+mod tests;
+pub mod transfers;

@@ -1,0 +1,148 @@
+//! The calls that move bytes, and those that move positions.
+
+ghost use Rattle.std.specs.Prelude.{◌≡◌};
+ghost use Rattle.layout_laws.specs.Abis.{rules};
+ghost use Rattle.served_calls.specs.Calls.{Delivers, Serves, ServesAlways, served};
+ghost use Rattle.file_calls.specs.Transfers.{gives_bytes, gives_position, halves, llseek, lseek, pread64, pwrite64, read, write};
+
+use abi_registers::Args;
+use file_layouts::Position64;
+use kernel_values::{Answer, Errno};
+use layout_laws::Compat;
+use native_kernel::{Kernel, Place};
+use served_calls::{fetch_data, low_word, room, store_bytes, store_shape, transfer_count};
+use std::alloc::Global;
+use user_memory::UserMemory;
+
+/// Stores the bytes of a read, and tells how many they are.
+fn give_bytes(memory: &mut UserMemory, at: u32, bytes: &[u8]) -> Result<u32, Errno>
+    ensures { Delivers result memory.new (gives_bytes at bytes.now memory.old) }
+{
+    store_bytes(memory, at, bytes)?;
+    Ok(low_word(bytes.len() as u64))
+}
+
+/// read(descriptor, buffer, count)
+#[tactic(auto, unfolding(crate::specs::Transfers::read))]
+pub fn read<A: Compat>(
+    alloc: Global,
+    memory: &mut UserMemory,
+    kernel: &mut Kernel,
+    args: &Args,
+) -> Answer<u32>
+    ensures { Serves result memory.new kernel.new (served (read (rules A.KIND A.ALIGN64) args.now) memory.old kernel.old) }
+{
+    let count = transfer_count(args.word(2));
+    let most = room(memory, args.word(1), count);
+    let bytes = kernel.read(
+        alloc,
+        args.signed(0),
+        u64::from(count),
+        u64::from(most),
+        Place::Current,
+    )?;
+    let told = give_bytes(memory, args.word(1), bytes.as_slice())?;
+    Ok(told)
+}
+
+/// pread64(descriptor, buffer, count, offset)
+#[tactic(auto, unfolding(crate::specs::Transfers::pread64))]
+pub fn pread64<A: Compat>(
+    alloc: Global,
+    memory: &mut UserMemory,
+    kernel: &mut Kernel,
+    args: &Args,
+) -> Answer<u32>
+    ensures { Serves result memory.new kernel.new (served (pread64 (rules A.KIND A.ALIGN64) args.now) memory.old kernel.old) }
+{
+    let count = transfer_count(args.word(2));
+    let most = room(memory, args.word(1), count);
+    let place = Place::At(args.signed(3));
+    let bytes = kernel.read(
+        alloc,
+        args.signed(0),
+        u64::from(count),
+        u64::from(most),
+        place,
+    )?;
+    let told = give_bytes(memory, args.word(1), bytes.as_slice())?;
+    Ok(told)
+}
+
+/// write(descriptor, buffer, count)
+#[tactic(auto, unfolding(crate::specs::Transfers::write))]
+pub fn write<A: Compat>(
+    alloc: Global,
+    memory: &mut UserMemory,
+    kernel: &mut Kernel,
+    args: &Args,
+) -> Answer<u32>
+    ensures { Serves result memory.new kernel.new (served (write (rules A.KIND A.ALIGN64) args.now) memory.old kernel.old) }
+{
+    let count = transfer_count(args.word(2));
+    let piece = fetch_data(alloc, memory, args.word(1), count)?;
+    let written = kernel.write(
+        alloc,
+        args.signed(0),
+        u64::from(count),
+        &piece,
+        Place::Current,
+    )?;
+    Ok(low_word(written))
+}
+
+/// pwrite64(descriptor, buffer, count, offset)
+#[tactic(auto, unfolding(crate::specs::Transfers::pwrite64))]
+pub fn pwrite64<A: Compat>(
+    alloc: Global,
+    memory: &mut UserMemory,
+    kernel: &mut Kernel,
+    args: &Args,
+) -> Answer<u32>
+    ensures { Serves result memory.new kernel.new (served (pwrite64 (rules A.KIND A.ALIGN64) args.now) memory.old kernel.old) }
+{
+    let count = transfer_count(args.word(2));
+    let piece = fetch_data(alloc, memory, args.word(1), count)?;
+    let place = Place::At(args.signed(3));
+    let written = kernel.write(alloc, args.signed(0), u64::from(count), &piece, place)?;
+    Ok(low_word(written))
+}
+
+/// A position as a result word. EOVERFLOW above 2^31 - 1.
+fn position_word(memory: &mut UserMemory, position: i64) -> Result<u32, Errno>
+    ensures { Delivers result memory.new (gives_position position memory.old) }
+{
+    if position > 0x7fff_ffff {
+        return Err(Errno::Overflow);
+    }
+    Ok(low_word(position.unsigned_abs()))
+}
+
+/// lseek(descriptor, offset, whence)
+#[tactic(auto, unfolding(crate::specs::Transfers::lseek))]
+pub fn lseek<A: Compat>(memory: &mut UserMemory, kernel: &mut Kernel, args: &Args) -> Answer<u32>
+    ensures { ServesAlways result memory.new kernel.new (served (lseek (rules A.KIND A.ALIGN64) args.now) memory.old kernel.old) }
+{
+    let position = kernel.seek(args.signed(0), args.signed(1), args.word(2))?;
+    let told = position_word(memory, position)?;
+    Ok(told)
+}
+
+/// A signed number of 64 bits, from its high and its low word.
+#[tactic(auto, unfolding(crate::specs::Transfers::halves))]
+fn halves(high: u32, low: u32) -> i64
+    ensures { result ≡ halves high low }
+{
+    (u64::from(high) * 0x1_0000_0000 + u64::from(low)).cast_signed()
+}
+
+/// _llseek(descriptor, high, low, result, whence)
+#[tactic(auto, unfolding(crate::specs::Transfers::llseek))]
+pub fn llseek<A: Compat>(memory: &mut UserMemory, kernel: &mut Kernel, args: &Args) -> Answer<u32>
+    ensures { ServesAlways result memory.new kernel.new (served (llseek (rules A.KIND A.ALIGN64) args.now) memory.old kernel.old) }
+{
+    let offset = halves(args.word(1), args.word(2));
+    let position = kernel.seek(args.signed(0), offset, args.word(4))?;
+    store_shape::<A, Position64>(memory, args.word(3), &Position64 { position })?;
+    Ok(0)
+}

@@ -1,0 +1,10 @@
+pub mod Slashes
+pub mod FreeNumbers
+pub mod Holdings
+pub mod Texts
+pub mod Slots
+pub mod SlabSteps
+pub mod Ordered
+pub mod Moves
+pub mod Closings
+pub mod FileItems

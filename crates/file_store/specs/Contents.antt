@@ -1,0 +1,21 @@
+-- The bytes of files, by inode number.
+use Rattle.std.specs.Prelude.{ℕ, Bool, false, nat_le, length, List, [], Option, Some, None, unwrap_or}
+use Rattle.file_bytes.specs.Row.{written}
+use Rattle.file_store.specs.Table.{at, changed}
+
+-- an inode that has no bytes of its own, as a directory, has none
+abbrev pub content_of : List (ℕ × List ℕ) → ℕ → List ℕ
+content_of contents inode = unwrap_or (at contents inode) []
+
+-- a file's bytes with others from a place on
+abbrev pub overwritten_as : List (ℕ × List ℕ) → ℕ → ℕ → List ℕ → Option (List ℕ) → List (ℕ × List ℕ)
+overwritten_as contents inode start bytes None = contents
+overwritten_as contents inode start bytes (Some content) = changed contents inode (written content start bytes)
+
+unfoldable pub overwritten : List (ℕ × List ℕ) → ℕ → ℕ → List ℕ → List (ℕ × List ℕ)
+overwritten contents inode start bytes = overwritten_as contents inode start bytes (at contents inode)
+
+-- a file is there and has so many bytes
+abbrev pub reaches : Option (List ℕ) → ℕ → Bool
+reaches None end = false
+reaches (Some content) end = nat_le end (length content)

@@ -1,0 +1,189 @@
+//! Files, directories, open files and descriptors told item by item, in the order of a report.
+
+ghost use Rattle.std.specs.Prelude.{◌≡◌, ◌+◌, ◌≤◌, [], ◌∷◌, length, take, drop, IfOk, MatchOption};
+ghost use Rattle.kernel_values.specs.Items.{TellsFirst};
+ghost use Rattle.file_store.specs.Table.{after, after_key};
+ghost use Rattle.file_store.specs.Contents.{content_of};
+ghost use Rattle.file_store.specs.Items.{file_items, files_left, names_in};
+
+use crate::paths::ROOT;
+use crate::state::{Entry, Files};
+use kernel_values::{ByteList, NameText, OutOfMemory, StateItem};
+use std::alloc::Global;
+
+/// Where the telling of files is: a part of what is told, and the last of that part that was told.
+#[derive(Clone, Copy, Debug)]
+pub enum FileCursor {
+    /// At the working directory, which is first.
+    Working,
+    /// At files and directories whose inode number is greater than this one.
+    Nodes(Option<u64>),
+    /// At the names in a directory whose position is greater than this one.
+    Names { directory: u64, last: Option<u64> },
+    /// At the bytes of a file from an offset on.
+    Bytes { inode: u64, offset: u64 },
+    /// At descriptors whose number is greater than this one.
+    Descriptors(Option<u64>),
+    /// At open files whose serial number is greater than this one.
+    OpenFiles(Option<u64>),
+}
+
+/// An item, and the cursor at those behind it.
+type Told = Option<(StateItem, FileCursor)>;
+
+impl Files {
+    /// Where the telling of files begins: all items are left.
+    pub fn first_item(&self) -> FileCursor
+        ensures { files_left self.now result ≡ file_items self.now }
+    {
+        FileCursor::Working
+    }
+
+    #[tactic(auto, unfolding(crate::specs::Items::files_left))]
+    fn open_file_item(&self, last: Option<u64>) -> Told
+        ensures { TellsFirst (files_left self.now) (FileCursor.OpenFiles last) result }
+    {
+        let (serial, file) = self.open_files.after(last)?;
+        let item = StateItem::OpenFile {
+            serial,
+            kind: file.kind,
+            flags: file.flags,
+            position: file.position,
+            inode: file.inode,
+        };
+        Some((item, FileCursor::OpenFiles(Some(serial))))
+    }
+
+    #[tactic(auto, unfolding(crate::specs::Items::files_left))]
+    fn descriptor_item(&self, last: Option<u64>) -> Told
+        ensures { TellsFirst (files_left self.now) (FileCursor.Descriptors last) result }
+    {
+        match self.descriptors.after(last) {
+            Some((number, held)) => {
+                let (serial, cloexec) = (held.serial, held.cloexec);
+                let item = StateItem::Descriptor {
+                    number,
+                    serial,
+                    cloexec,
+                };
+                Some((item, FileCursor::Descriptors(Some(number))))
+            }
+            None => self.open_file_item(None),
+        }
+    }
+
+    #[tactic(auto, unfolding(crate::specs::Items::files_left, crate::specs::Items::nodes_before))]
+    fn node_item(&self, last: Option<u64>) -> Told
+        ensures { TellsFirst (files_left self.now) (FileCursor.Nodes last) result }
+    {
+        match self.nodes.after(last) {
+            Some((inode, node)) => {
+                let item = StateItem::Node {
+                    inode,
+                    kind: self.kind_of(inode),
+                    size: self.contents.len(inode),
+                    attributes: node.attributes,
+                };
+                let (directory, last) = (inode, None);
+                Some((item, FileCursor::Names { directory, last }))
+            }
+            None => self.descriptor_item(None),
+        }
+    }
+
+    /// The bytes of a file, so many of them from an offset on.
+    fn bytes_of(
+        &self,
+        alloc: Global,
+        inode: u64,
+        offset: u64,
+        count: u64,
+    ) -> Result<ByteList, OutOfMemory>
+        requires { offset + count ≤ length (content_of self.now.contents inode) }
+        ensures { IfOk result (λ bytes. bytes ≡ take count (drop offset (content_of self.now.contents inode))) }
+    {
+        let mut bytes = Vec::new(alloc);
+        self.contents.read(inode, offset, count, &mut bytes)?;
+        Ok(ByteList::from_vec(bytes))
+    }
+
+    #[tactic(auto, unfolding(crate::specs::Items::files_left))]
+    fn bytes_item(&self, alloc: Global, inode: u64, offset: u64) -> Result<Told, OutOfMemory>
+        ensures { IfOk result (λ told. TellsFirst (files_left self.now) (FileCursor.Bytes inode offset) told) }
+    {
+        let Some(run) = self.contents.next_run(inode, offset) else {
+            return Ok(self.node_item(Some(inode)));
+        };
+        let bytes = self.bytes_of(alloc, inode, run.at, run.length)?;
+        let item = StateItem::Bytes {
+            inode,
+            offset: run.at,
+            bytes,
+        };
+        let offset = run.at + run.length;
+        Ok(Some((item, FileCursor::Bytes { inode, offset })))
+    }
+
+    /// The first name in a directory after a position.
+    #[tactic(auto, using(crate::proofs::FileItems::nothing_after))]
+    fn name_after(&self, directory: u64, last: Option<u64>) -> Option<(u64, &Entry)>
+        ensures { MatchOption result (after (names_in self.now directory) last ≡ [])
+            (λ e. after (names_in self.now directory) last ≡ (e.0, e.1.now) ∷ after_key (names_in self.now directory) e.0) }
+    {
+        match self.directories.get(directory) {
+            Some(directory) => directory.names.after(last),
+            None => None,
+        }
+    }
+
+    #[tactic(auto, unfolding(crate::specs::Items::files_left))]
+    fn name_item(
+        &self,
+        alloc: Global,
+        directory: u64,
+        last: Option<u64>,
+    ) -> Result<Told, OutOfMemory>
+        ensures { IfOk result (λ told. TellsFirst (files_left self.now) (FileCursor.Names directory last) told) }
+    {
+        let Some((position, entry)) = self.name_after(directory, last) else {
+            return self.bytes_item(alloc, directory, 0);
+        };
+        let item = StateItem::Name {
+            directory,
+            position,
+            child: entry.child,
+            name: NameText::from_slice(alloc, entry.name.as_slice())?,
+        };
+        let last = Some(position);
+        Ok(Some((item, FileCursor::Names { directory, last })))
+    }
+
+    #[tactic(auto, unfolding(crate::specs::Items::files_left))]
+    fn working_item(&self) -> Told
+        ensures { TellsFirst (files_left self.now) FileCursor.Working result }
+    {
+        if self.working == ROOT {
+            return self.node_item(None);
+        }
+        let inode = self.working;
+        let item = StateItem::WorkingDirectory { inode };
+        Some((item, FileCursor::Nodes(None)))
+    }
+
+    /// The first of the items that are left at a cursor, and the cursor at those behind it. None exactly where no item is left.
+    pub fn item(&self, alloc: Global, cursor: FileCursor) -> Result<Told, OutOfMemory>
+        ensures { IfOk result (λ told. TellsFirst (files_left self.now) cursor told) }
+    {
+        match cursor {
+            FileCursor::Working => Ok(self.working_item()),
+            FileCursor::Nodes(last) => Ok(self.node_item(last)),
+            FileCursor::Names { directory, last } => self.name_item(alloc, directory, last),
+            FileCursor::Bytes { inode, offset } => self.bytes_item(alloc, inode, offset),
+            FileCursor::Descriptors(last) => Ok(self.descriptor_item(last)),
+            FileCursor::OpenFiles(last) => Ok(self.open_file_item(last)),
+        }
+    }
+}
+
+#[cfg(test)]
+mod tests;

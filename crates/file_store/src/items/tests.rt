@@ -1,0 +1,89 @@
+//! The order of the items, and what of them ends with the process.
+
+use super::*;
+use crate::WORKING;
+use crate::state::Maker;
+use kernel_values::{AbiKind, Answer, OpenFlags, TimeSpec};
+use std::test::Fail;
+
+const MAKER: Maker = Maker {
+    uid: 8,
+    gid: 9,
+    time: TimeSpec {
+        seconds: 5,
+        nanos: 6,
+    },
+};
+
+// Directory /d, inode 6, is the working one; file /f, inode 7, with bytes abc00, is open at 0 and 1.
+fn opened(alloc: Global) -> Answer<Files> {
+    let mut files = Files::new(alloc)?;
+    files.image_directory(alloc, b"/d", 6)?;
+    files.image_file(alloc, b"/f", 7, 5)?;
+    files.image_bytes(alloc, b"/f", 0, b"abc")?;
+    files.change_directory(WORKING, b"/d")?;
+    let flags = OpenFlags::from_word(AbiKind::Ia32, 0);
+    files.open_by_path(alloc, 9, &MAKER, WORKING, b"/f", flags, 0)?;
+    files.duplicate(9, 0, -1, false)?;
+    Ok(files)
+}
+
+// A letter for the kind of item, and two of its numbers.
+fn label(item: &StateItem) -> (u8, u64, u64) {
+    match item {
+        StateItem::WorkingDirectory { inode } => (b'w', *inode, 0),
+        StateItem::Node { inode, size, .. } => (b'n', *inode, *size),
+        StateItem::Name {
+            position,
+            child,
+            ..
+        } => (b'e', *position, *child),
+        StateItem::Bytes { inode, bytes, .. } => (b'b', *inode, bytes.len() as u64),
+        StateItem::Descriptor { number, serial, .. } => (b'd', *number, *serial),
+        StateItem::OpenFile { serial, inode, .. } => (b'o', *serial, *inode),
+        _ => (b'?', 0, 0),
+    }
+}
+
+fn told(files: &Files, alloc: Global) -> Option<Vec<(u8, u64, u64)>> {
+    let mut labels = Vec::new(alloc);
+    let mut cursor = files.first_item();
+    for _ in 0..20 {
+        let Some((item, next)) = files.item(alloc, cursor).ok()? else {
+            return Some(labels);
+        };
+        labels.push(label(&item)).ok()?;
+        cursor = next;
+    }
+    None
+}
+
+#[test]
+fn items_come_in_order(rt: HostRuntime) -> Result<(), Fail> {
+    let files = opened(rt.alloc())?;
+    let items = told(&files, rt.alloc()).ok_or("memory")?;
+    let expected = [
+        (b'w', 6, 0),
+        (b'n', 2, 0),
+        (b'e', 3, 6),
+        (b'e', 4, 7),
+        (b'n', 6, 0),
+        (b'n', 7, 5),
+        (b'b', 7, 3),
+        (b'd', 0, 1),
+        (b'd', 1, 1),
+        (b'o', 1, 7),
+    ];
+    assert!(rt; items.as_slice() == expected.as_slice());
+    Ok(())
+}
+
+#[test]
+fn nothing_is_open_after_the_end(rt: HostRuntime) -> Result<(), Fail> {
+    let mut files = opened(rt.alloc())?;
+    files.close_all();
+    let items = told(&files, rt.alloc()).ok_or("memory")?;
+    assert_eq!(rt; items.len(), 7);
+    assert_eq!(rt; items.last(), Some(&(b'b', 7, 3)));
+    Ok(())
+}

@@ -1,0 +1,140 @@
+//! The numbers of descriptors: new ones, and those that are closed.
+
+ghost use Rattle.std.specs.Prelude.{false, ◌≡◌, ℕ, ◌-◌, ◌+◌, ◌<◌, ◌≤◌, Some, IsSome, IfOk, OnOk, length};
+ghost use Rattle.kernel_values.specs.Outcome.{Gives, GivesAlways, Tells};
+ghost use Rattle.file_store.specs.Made.{HasRoom};
+ghost use Rattle.file_store.specs.Table.{at};
+ghost use Rattle.file_store.specs.Descriptors.{close, closed, duplicate, duplicate_to, from_least, installed, is_dup_flags, is_number, vacated, with_descriptor};
+
+use crate::descriptors::number_of;
+use crate::state::{Descriptor, Files, OpenFile};
+use kernel_values::{Answer, Errno, KernelFault, OutOfMemory};
+
+/// O_CLOEXEC of `include/uapi/asm-generic/fcntl.h`, the one flag of dup3.
+const CLOSE_ON_EXEC: u32 = 0x8_0000;
+
+fn from_least(least: i64) -> u64
+    ensures { result ≡ from_least least }
+{
+    if least < 0 { 0 } else { least as u64 }
+}
+
+fn is_dup_flags(flags: u32) -> bool
+    ensures { result ≡ is_dup_flags flags }
+{
+    flags == 0 || flags == CLOSE_ON_EXEC
+}
+
+fn is_number(fd: i64, number: u64) -> bool
+    ensures { result ≡ is_number fd number }
+{
+    fd >= 0 && fd as u64 == number
+}
+
+impl Files {
+    fn set_descriptor(&mut self, number: u64, descriptor: Descriptor) -> Result<(), OutOfMemory>
+        ensures { OnOk result (self.new ≡ with_descriptor self.old number descriptor) }
+    {
+        self.descriptors.put(number, descriptor)
+    }
+
+    /// F_DUPFD, F_DUPFD_CLOEXEC, and with a negative `least` dup: another descriptor of the same open file, at
+    /// the lowest free number from `least` on and below `limit`, the soft limit of descriptors.
+    ///
+    /// EBADF; EINVAL for a `least` at or above the limit; EMFILE; ENFILE where fewer than four things are left
+    /// to make.
+    pub fn duplicate(&mut self, limit: u64, fd: i64, least: i64, cloexec: bool) -> Answer<u64>
+        ensures { Gives (λ n. n) result self.new (duplicate self.old limit fd least cloexec) }
+    {
+        let (_, held) = self.descriptor(fd)?;
+        if least >= 0 && least as u64 >= limit {
+            return Err(KernelFault::Errno(Errno::InvalidArgument));
+        }
+        let Some(number) = self.descriptors.first_free(from_least(least), limit) else {
+            return Err(KernelFault::Errno(Errno::TooManyDescriptors));
+        };
+        if self.made.is_full() {
+            return Err(KernelFault::Errno(Errno::TableFull));
+        }
+        let serial = held.serial;
+        self.set_descriptor(number, Descriptor { serial, cloexec })?;
+        Ok(number)
+    }
+
+    /// Makes an open file and its descriptor.
+    pub(crate) fn put_open_file(
+        &mut self,
+        number: u64,
+        file: OpenFile,
+        cloexec: bool,
+    ) -> Result<(), OutOfMemory>
+        requires { HasRoom self.old.made 1 }
+        ensures { OnOk result (self.new ≡ installed self.old number (self.old.made.last_serial + 1) file cloexec) }
+    {
+        let serial = self.made.open_one();
+        self.open_files.put(serial, file)?;
+        self.descriptors.put(number, Descriptor { serial, cloexec })
+    }
+
+    #[tactic(auto, unfolding(crate::specs::Descriptors::closed))]
+    pub(crate) fn drop_descriptor(&mut self, number: u64, serial: u64)
+        ensures { self.new ≡ closed self.old number serial }
+    {
+        let _closed = self.descriptors.remove(number);
+        self.release(serial);
+    }
+
+    /// Closes a descriptor. Its open file ends with its last descriptor, and a file without a name with the
+    /// last open file. EBADF.
+    pub fn close(&mut self, fd: i64) -> Answer<()>
+        ensures { GivesAlways (λ _. tt) result self.new (close self.old fd) }
+    {
+        let (number, held) = self.descriptor(fd)?;
+        self.drop_descriptor(number, held.serial);
+        Ok(())
+    }
+
+    fn vacate(&mut self, number: u64)
+        ensures { self.new ≡ vacated self.old number (at self.old.descriptors number) }
+    {
+        if let Some(held) = self.descriptors.get(number) {
+            let serial = held.serial;
+            self.drop_descriptor(number, serial);
+        }
+    }
+
+    /// dup2, and with `three` dup3: makes a number name the same open file, and closes first what was open
+    /// there. dup2 has no flags, and onto itself it changes nothing.
+    ///
+    /// EBADF; of dup3 EINVAL for flags other than O_CLOEXEC and for the same number; EBADF for a new number
+    /// below 0 or at or above `limit`, the soft limit of descriptors, which dup2 onto itself isn't held to.
+    pub fn duplicate_to(
+        &mut self,
+        limit: u64,
+        fd: i64,
+        new: i64,
+        flags: u32,
+        three: bool,
+    ) -> Answer<u64>
+        ensures { Gives (λ n. n) result self.new (duplicate_to self.old limit fd new flags three) }
+    {
+        let (old, held) = self.descriptor(fd)?;
+        if three && !is_dup_flags(flags) {
+            return Err(KernelFault::Errno(Errno::InvalidArgument));
+        }
+        if three && is_number(new, old) {
+            return Err(KernelFault::Errno(Errno::InvalidArgument));
+        }
+        let number = number_of(new)?;
+        if old == number {
+            return Ok(number);
+        }
+        if number >= limit {
+            return Err(KernelFault::Errno(Errno::BadDescriptor));
+        }
+        self.vacate(number);
+        let (serial, cloexec) = (held.serial, three && flags == CLOSE_ON_EXEC);
+        self.set_descriptor(number, Descriptor { serial, cloexec })?;
+        Ok(number)
+    }
+}

@@ -1,0 +1,47 @@
+-- What is told of the state: one list of items, and what of it is left at a cursor.
+use Rattle.std.specs.Prelude.{◌≡◌, ℕ, ◌+◌, ◌^◌, ◌-◌, ◌==◌, ◌&&◌, Bool, List, [], ◌∷◌, ◌++◌, drop, Option, Some, None, MatchOption, Result, Ok, Err, if◌then◌else◌}
+use Rattle.kernel_values.specs.declared.errno.OutOfMemory.{OutOfMemory}
+use Rattle.kernel_values.specs.declared.process_end.End.{End}
+use Rattle.kernel_values.specs.declared.times.Limit.{Limit}
+use Rattle.kernel_values.specs.declared.items.StateItem.{StateItem}
+use Rattle.kernel_values.specs.declared.items.StateItem.TheVariants as item
+use Rattle.file_store.specs.Items.{file_items, files_left}
+use Rattle.native_kernel.specs.declared.items.StateCursor.{StateCursor}
+use Rattle.native_kernel.specs.declared.items.StateCursor.TheVariants as cursor
+use Rattle.native_kernel.specs.declared.state.Kernel.{Kernel}
+
+abbrev pub ended_items : Option End → List StateItem
+ended_items None = []
+ended_items (Some end) = item.Ended end ∷ []
+
+-- whether a limit is as at the start: infinity, but 1,024 of 4,096 descriptors
+abbrev pub is_starting : ℕ → Limit → Bool
+is_starting resource l = if resource == 7 then (l.soft == 1024) && (l.hard == 4096) else (l.soft == 2 ^ 64 - 1) && (l.hard == 2 ^ 64 - 1)
+
+-- each limit that isn't as at the start, the first of them with this number
+unfoldable pub limit_items : ℕ → List Limit → List StateItem
+limit_items resource [] = []
+limit_items resource (l ∷ ls) = if is_starting resource l then limit_items (resource + 1) ls else item.Limit resource l ∷ limit_items (resource + 1) ls
+
+-- what is left of a part is followed by all of the later parts
+abbrev pub limits_left : Kernel → ℕ → List StateItem
+limits_left k resource = limit_items resource (drop resource k.limits.held) ++ file_items k.files
+
+abbrev pub ended_left : Kernel → List StateItem
+ended_left k = ended_items k.ended ++ limits_left k 0
+
+-- the state, item by item, in the order of a report
+unfoldable pub items : Kernel → List StateItem
+items k = item.Clock k.clocks.real k.clocks.monotonic ∷ ended_left k
+
+-- the items that are left at a cursor
+unfoldable pub left : Kernel → StateCursor → List StateItem
+left k cursor.Clocks = items k
+left k cursor.Ended = ended_left k
+left k (cursor.Limits resource) = limits_left k resource
+left k (cursor.Files c) = files_left k.files c
+
+-- the next item was told, and the cursor is at those behind it; after want of memory it is as before
+abbrev pub TellsNext : Kernel → StateCursor → Result (Option StateItem) OutOfMemory → StateCursor → Type 0
+TellsNext k old (Ok told) new = MatchOption told ((left k old ≡ []) × (new ≡ old)) (λ x. left k old ≡ x ∷ left k new)
+TellsNext k old (Err e) new = new ≡ old

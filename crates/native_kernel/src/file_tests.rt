@@ -1,0 +1,265 @@
+//! The calls on files once each, the state told item by item, and the descriptors of a process that ends. A helper says
+//! nothing of what it gives: so the proof of a test knows nothing of the kernel's state.
+
+use crate::{Identity, Kernel, Place};
+use file_store::WORKING;
+use kernel_values::{AbiKind, Answer, End, KernelFault, Limit, OpenFlags, StateItem, Usage};
+use std::alloc::Global;
+use std::test::Fail;
+
+const OWNER: Identity = Identity {
+    pid: 7,
+    uid: 8,
+    gid: 9,
+    privileged: false,
+    real: 5,
+    monotonic: 6,
+    usage: Usage { words: [0; 18] },
+};
+
+/// A kernel, and the arguments that no test varies. A call tells its number, 0 for none, or the number of its error
+/// below 0.
+#[derive(Drop)]
+struct Desk {
+    kernel: Kernel,
+    alloc: Global,
+}
+
+/// The image has directory /d, inode 6, and file /f, inode 7, with bytes abc00.
+fn image(alloc: Global) -> Answer<Desk> {
+    let mut kernel = Kernel::new(alloc, &OWNER)?;
+    kernel.image_directory(alloc, b"/d", 6)?;
+    kernel.image_file(alloc, b"/f", 7, 5)?;
+    kernel.image_bytes(alloc, b"/f", 0, b"abc")?;
+    Ok(Desk { kernel, alloc })
+}
+
+fn told_fault(fault: KernelFault) -> i64 {
+    match fault {
+        KernelFault::Errno(errno) => -i64::from(errno.number()),
+        KernelFault::OutOfMemory => i64::MIN,
+    }
+}
+
+fn told(answer: Answer<u64>) -> i64 {
+    match answer {
+        Ok(number) => i64::try_from(number).unwrap_or(i64::MAX),
+        Err(fault) => told_fault(fault),
+    }
+}
+
+fn done(answer: Answer<()>) -> i64 {
+    match answer {
+        Ok(()) => 0,
+        Err(fault) => told_fault(fault),
+    }
+}
+
+impl Desk {
+    /// Opens with a word of ia32, and mode 644.
+    fn open(&mut self, path: &[u8], word: u32) -> i64 {
+        let flags = OpenFlags::from_word(AbiKind::Ia32, word);
+        told(
+            self.kernel
+                .open_by_path(self.alloc, WORKING, path, flags, 0o644),
+        )
+    }
+
+    fn close(&mut self, fd: i64) -> i64 {
+        done(self.kernel.close(fd))
+    }
+
+    fn write(&mut self, fd: i64, bytes: &[u8]) -> i64 {
+        let count = bytes.len() as u64;
+        told(
+            self.kernel
+                .write(self.alloc, fd, count, bytes, Place::Current),
+        )
+    }
+
+    fn seek(&mut self, fd: i64, offset: i64, whence: u32) -> i64 {
+        match self.kernel.seek(fd, offset, whence) {
+            Ok(position) => position,
+            Err(fault) => told_fault(fault),
+        }
+    }
+
+    /// Whether a read gives these bytes.
+    fn reads(&mut self, fd: i64, wanted: u64, bytes: &[u8]) -> bool {
+        match self.kernel.read(self.alloc, fd, wanted, 64, Place::Current) {
+            Ok(given) => given.as_slice() == bytes,
+            Err(_) => false,
+        }
+    }
+
+    fn dup(&mut self, fd: i64) -> i64 {
+        told(self.kernel.duplicate(fd, -1, false))
+    }
+
+    fn dup3(&mut self, fd: i64, new: i64, flags: u32) -> i64 {
+        told(self.kernel.duplicate_to(fd, new, flags, true))
+    }
+
+    /// The flags of a descriptor before and after they are set.
+    fn marks(&mut self, fd: i64, word: u32) -> [i64; 2] {
+        let before = told(self.kernel.fd_flags(fd).map(u64::from));
+        let set = done(self.kernel.set_fd_flags(fd, word));
+        if set != 0 {
+            return [before, set];
+        }
+        [before, told(self.kernel.fd_flags(fd).map(u64::from))]
+    }
+
+    /// The word of ia32 for the flags of a descriptor's open file.
+    fn flags(&self, fd: i64) -> i64 {
+        match self.kernel.open_flags(fd) {
+            Ok(flags) => i64::from(flags.to_word(AbiKind::Ia32)),
+            Err(fault) => told_fault(fault),
+        }
+    }
+
+    fn set_flags(&mut self, fd: i64, word: u32) -> i64 {
+        let flags = OpenFlags::from_word(AbiKind::Ia32, word);
+        done(self.kernel.set_open_flags(fd, flags))
+    }
+
+    /// Whether a descriptor can be read and written.
+    fn uses(&self, fd: i64) -> [bool; 2] {
+        let kernel = &self.kernel;
+        [
+            kernel.can_use(fd, true, false),
+            kernel.can_use(fd, false, true),
+        ]
+    }
+
+    fn enter(&mut self, path: &[u8]) -> i64 {
+        done(self.kernel.change_dir(path))
+    }
+
+    /// Whether the working directory has this path.
+    fn is_at(&self, path: &[u8]) -> bool {
+        match self.kernel.current_dir(self.alloc, 64) {
+            Ok(text) => text.as_slice() == path,
+            Err(_) => false,
+        }
+    }
+
+    fn limit_stack(&mut self) -> i64 {
+        done(self.kernel.set_limit(3, &Limit { soft: 1, hard: 2 }))
+    }
+
+    fn finish(&mut self) {
+        self.kernel.finish(End::Exit(3));
+    }
+}
+
+/// What an item is of, by the first word of its line in a report, and the number that it has there.
+fn line(item: &StateItem) -> (&'static str, u64) {
+    match item {
+        StateItem::Clock { real, .. } => ("clock", *real),
+        StateItem::Ended { .. } => ("ended", 0),
+        StateItem::Limit { resource, .. } => ("limit", u64::from(*resource)),
+        StateItem::WorkingDirectory { inode } => ("cwd", *inode),
+        StateItem::Node { inode, .. } => ("node", *inode),
+        StateItem::Name { position, .. } => ("name", *position),
+        StateItem::Bytes { inode, .. } => ("bytes", *inode),
+        StateItem::Descriptor { number, .. } => ("fd", *number),
+        StateItem::OpenFile { serial, .. } => ("open", *serial),
+    }
+}
+
+impl Desk {
+    /// Whether the state has these items alone, in this order.
+    fn tells(&self, lines: &[(&'static str, u64)]) -> bool {
+        let mut cursor = self.kernel.first_item();
+        for wanted in lines {
+            match self.kernel.next_item(self.alloc, &mut cursor) {
+                Ok(Some(item)) if line(&item) == *wanted => {}
+                _ => return false,
+            }
+        }
+        match self.kernel.next_item(self.alloc, &mut cursor) {
+            Ok(None) => true,
+            _ => false,
+        }
+    }
+}
+
+#[test]
+fn an_open_file_is_read_and_written(rt: HostRuntime) -> Result<(), Fail> {
+    let mut desk = image(rt.alloc())?;
+    assert_eq!(rt; desk.open(b"/f", 0x8002), 0);
+    assert_eq!(rt; desk.seek(0, -4, 2), 1);
+    assert_eq!(rt; desk.write(0, b"xy"), 2);
+    assert_eq!(rt; desk.seek(0, 0, 0), 0);
+    assert!(rt; desk.reads(0, 9, b"axy\0\0"));
+    assert_eq!(rt; desk.close(0), 0);
+    assert_eq!(rt; desk.close(0), -9);
+    Ok(())
+}
+
+#[test]
+fn descriptors_and_their_flags(rt: HostRuntime) -> Result<(), Fail> {
+    let mut desk = image(rt.alloc())?;
+    assert_eq!(rt; desk.open(b"/d/new", 0x8041), 0);
+    assert_eq!(rt; desk.uses(0), [false, true]);
+    assert_eq!(rt; desk.dup(0), 1);
+    assert_eq!(rt; desk.dup3(0, 5, 0x8_0000), 5);
+    assert_eq!(rt; desk.marks(5, 2), [1, 0]);
+    assert_eq!(rt; desk.set_flags(5, 0x400), 0);
+    assert_eq!(rt; desk.flags(1), 0x8401);
+    Ok(())
+}
+
+#[test]
+fn the_working_directory_is_changed(rt: HostRuntime) -> Result<(), Fail> {
+    let mut desk = image(rt.alloc())?;
+    assert_eq!(rt; desk.enter(b"/f"), -20);
+    assert_eq!(rt; desk.enter(b"d"), 0);
+    assert!(rt; desk.is_at(b"/d\0"));
+    assert_eq!(rt; desk.open(b"new", 0x41), 0);
+    Ok(())
+}
+
+#[test]
+fn the_state_is_told_in_order(rt: HostRuntime) -> Result<(), Fail> {
+    let mut desk = image(rt.alloc())?;
+    assert_eq!(rt; desk.enter(b"d"), 0);
+    assert_eq!(rt; desk.limit_stack(), 0);
+    assert_eq!(rt; desk.open(b"/f", 0), 0);
+    assert_eq!(rt; desk.dup(0), 1);
+    assert!(rt; desk.tells(&OPEN_STATE));
+    desk.finish();
+    assert!(rt; desk.tells(&ENDED_STATE));
+    Ok(())
+}
+
+/// The numbers: of the real clock, of inodes, of positions in a directory, of descriptors and of open files.
+const OPEN_STATE: [(&'static str, u64); 12] = [
+    ("clock", 5),
+    ("limit", 3),
+    ("cwd", 6),
+    ("node", 2),
+    ("name", 3),
+    ("name", 4),
+    ("node", 6),
+    ("node", 7),
+    ("bytes", 7),
+    ("fd", 0),
+    ("fd", 1),
+    ("open", 1),
+];
+
+/// It has no descriptor and no open file.
+const ENDED_STATE: [(&'static str, u64); 10] = [
+    ("clock", 5),
+    ("ended", 0),
+    ("limit", 3),
+    ("cwd", 6),
+    ("node", 2),
+    ("name", 3),
+    ("name", 4),
+    ("node", 6),
+    ("node", 7),
+    ("bytes", 7),
+];

@@ -1,0 +1,134 @@
+//! The state told item by item, in the order of a report.
+
+ghost use Rattle.std.specs.Prelude.{◌≡◌, ◌+◌, ◌<◌, [], ◌∷◌, drop, IfOk, IfSome, MatchOption};
+ghost use Rattle.kernel_values.specs.declared.items.StateItem.TheVariants as item;
+ghost use Rattle.kernel_values.specs.Items.{TellsFirst};
+ghost use Rattle.native_kernel.specs.Items.{TellsNext, is_starting, items, left, limit_items};
+
+use crate::limits::OPEN_FILES;
+use crate::state::Kernel;
+use file_store::FileCursor;
+use kernel_values::{Limit, OutOfMemory, StateItem};
+use std::alloc::Global;
+
+/// Where the telling of a state is: a part of it, and a place in that part.
+#[derive(Clone, Copy, Debug)]
+pub enum StateCursor {
+    /// At the clocks, which are first.
+    Clocks,
+    /// At how the process ended.
+    Ended,
+    /// At the limits from a number on.
+    Limits(u32),
+    /// At files, directories and descriptors.
+    Files(FileCursor),
+}
+
+/// Whether a limit is as at the start.
+fn is_starting(resource: u32, limit: &Limit) -> bool
+    ensures { result ≡ is_starting resource limit.now }
+{
+    if resource == OPEN_FILES {
+        limit.soft == 1_024 && limit.hard == 4_096
+    } else {
+        limit.soft == u64::MAX && limit.hard == u64::MAX
+    }
+}
+
+/// An item, and the cursor at those behind it.
+type Told = Option<(StateItem, StateCursor)>;
+
+impl Kernel {
+    /// Where the telling of the state begins: all items are left.
+    #[tactic(auto, unfolding(crate::specs::Items::left))]
+    pub fn first_item(&self) -> StateCursor
+        ensures { left self.now result ≡ items self.now }
+    {
+        StateCursor::Clocks
+    }
+
+    #[tactic(auto, unfolding(crate::specs::Items::left))]
+    fn file_item(&self, alloc: Global, cursor: FileCursor) -> Result<Told, OutOfMemory>
+        ensures { IfOk result (λ told. TellsFirst (left self.now) (StateCursor.Files cursor) told) }
+    {
+        match self.files.item(alloc, cursor)? {
+            Some((item, next)) => Ok(Some((item, StateCursor::Files(next)))),
+            None => Ok(None),
+        }
+    }
+
+    /// The number of the first limit from one on that isn't as at the start.
+    #[tactic(auto, using(crate::proofs::LimitItems::limit_end, crate::proofs::LimitItems::limit_here, crate::proofs::LimitItems::limit_next))]
+    fn changed_limit(&self, first: u32) -> Option<(u32, Limit)>
+        ensures next { MatchOption result (limit_items first (drop first self.now.limits.held) ≡ [])
+            (λ l. limit_items first (drop first self.now.limits.held) ≡ item.Limit l.0 l.1 ∷ limit_items (l.0 + 1) (drop (l.0 + 1) self.now.limits.held)) }
+        ensures small { IfSome result (λ l. l.0 < 16) }
+    {
+        for resource in first..16 {
+            let limit = self.limits.held[resource as usize];
+            if !is_starting(resource, &limit) {
+                return Some((resource, limit));
+            }
+        }
+        None
+    }
+
+    #[tactic(auto, unfolding(crate::specs::Items::left))]
+    fn limit_item(&self, alloc: Global, first: u32) -> Result<Told, OutOfMemory>
+        ensures { IfOk result (λ told. TellsFirst (left self.now) (StateCursor.Limits first) told) }
+    {
+        match self.changed_limit(first) {
+            Some((resource, limit)) => {
+                let item = StateItem::Limit { resource, limit };
+                Ok(Some((item, StateCursor::Limits(resource + 1))))
+            }
+            None => self.file_item(alloc, self.files.first_item()),
+        }
+    }
+
+    #[tactic(auto, unfolding(crate::specs::Items::left))]
+    fn ended_item(&self, alloc: Global) -> Result<Told, OutOfMemory>
+        ensures { IfOk result (λ told. TellsFirst (left self.now) StateCursor.Ended told) }
+    {
+        match self.ended {
+            Some(end) => Ok(Some((StateItem::Ended { end }, StateCursor::Limits(0)))),
+            None => self.limit_item(alloc, 0),
+        }
+    }
+
+    #[tactic(auto, unfolding(crate::specs::Items::left, crate::specs::Items::items))]
+    fn clock_item(&self) -> Told
+        ensures { TellsFirst (left self.now) StateCursor.Clocks result }
+    {
+        let (real, monotonic) = (self.clocks.real, self.clocks.monotonic);
+        let item = StateItem::Clock { real, monotonic };
+        Some((item, StateCursor::Ended))
+    }
+
+    fn item(&self, alloc: Global, cursor: StateCursor) -> Result<Told, OutOfMemory>
+        ensures { IfOk result (λ told. TellsFirst (left self.now) cursor told) }
+    {
+        match cursor {
+            StateCursor::Clocks => Ok(self.clock_item()),
+            StateCursor::Ended => self.ended_item(alloc),
+            StateCursor::Limits(first) => self.limit_item(alloc, first),
+            StateCursor::Files(cursor) => self.file_item(alloc, cursor),
+        }
+    }
+
+    /// The next item, and the cursor at those behind it. None exactly where no item is left. After want of memory the
+    /// cursor is as before.
+    pub fn next_item(
+        &self,
+        alloc: Global,
+        cursor: &mut StateCursor,
+    ) -> Result<Option<StateItem>, OutOfMemory>
+        ensures { TellsNext self.now cursor.old result cursor.new }
+    {
+        let Some((item, next)) = self.item(alloc, *cursor)? else {
+            return Ok(None);
+        };
+        *cursor = next;
+        Ok(Some(item))
+    }
+}
