@@ -1,7 +1,7 @@
 -- The names of calls, in ASCII.
 use Rattle.std.specs.Prelude.{ℕ, List, codes}
 use Rattle.call_tables.specs.declared.operation.Operation.{Operation}
-use Rattle.call_tables.specs.declared.operation.Operation.TheVariants.{Chdir, ClockGetres, ClockGettime, ClockNanosleep, ClockSettime, Close, Dup, Dup2, Dup3, Exit, ExitGroup, Fcntl, Fcntl64, Getcwd, Getgid32, Getpid, Getrusage, Gettimeofday, Getuid32, Llseek, Lseek, Nanosleep, Open, Openat, Pread64, Prlimit64, Pwrite64, Read, Setrlimit, Ugetrlimit, Write}
+use Rattle.call_tables.specs.declared.operation.Operation.TheVariants.{Chdir, ClockGetres, ClockGettime, ClockNanosleep, ClockSettime, Close, Dup, Dup2, Dup3, Exit, ExitGroup, Fcntl, Fcntl64, Getcwd, Getgid32, Getpid, Getrusage, Gettimeofday, Getuid32, Llseek, Lseek, Mkdir, Mkdirat, Nanosleep, Open, Openat, Pread64, Prlimit64, Pwrite64, Read, Rename, Rmdir, Setrlimit, Ugetrlimit, Unlink, Unlinkat, Write}
 
 unfoldable pub name : Operation → List ℕ
 name Chdir = codes "chdir"
@@ -25,6 +25,8 @@ name Gettimeofday = codes "gettimeofday"
 name Getuid32 = codes "getuid32"
 name Llseek = codes "_llseek"
 name Lseek = codes "lseek"
+name Mkdir = codes "mkdir"
+name Mkdirat = codes "mkdirat"
 name Nanosleep = codes "nanosleep"
 name Open = codes "open"
 name Openat = codes "openat"
@@ -32,6 +34,10 @@ name Pread64 = codes "pread64"
 name Prlimit64 = codes "prlimit64"
 name Pwrite64 = codes "pwrite64"
 name Read = codes "read"
+name Rename = codes "rename"
+name Rmdir = codes "rmdir"
 name Setrlimit = codes "setrlimit"
 name Ugetrlimit = codes "ugetrlimit"
+name Unlink = codes "unlink"
+name Unlinkat = codes "unlinkat"
 name Write = codes "write"

@@ -27,6 +27,8 @@ pub enum Operation {
     Getuid32,
     Llseek,
     Lseek,
+    Mkdir,
+    Mkdirat,
     Nanosleep,
     Open,
     Openat,
@@ -34,8 +36,12 @@ pub enum Operation {
     Prlimit64,
     Pwrite64,
     Read,
+    Rename,
+    Rmdir,
     Setrlimit,
     Ugetrlimit,
+    Unlink,
+    Unlinkat,
     Write,
 }
 
@@ -67,6 +73,8 @@ impl Operation {
             Operation::Getuid32 => "getuid32",
             Operation::Llseek => "_llseek",
             Operation::Lseek => "lseek",
+            Operation::Mkdir => "mkdir",
+            Operation::Mkdirat => "mkdirat",
             Operation::Nanosleep => "nanosleep",
             Operation::Open => "open",
             Operation::Openat => "openat",
@@ -74,8 +82,12 @@ impl Operation {
             Operation::Prlimit64 => "prlimit64",
             Operation::Pwrite64 => "pwrite64",
             Operation::Read => "read",
+            Operation::Rename => "rename",
+            Operation::Rmdir => "rmdir",
             Operation::Setrlimit => "setrlimit",
             Operation::Ugetrlimit => "ugetrlimit",
+            Operation::Unlink => "unlink",
+            Operation::Unlinkat => "unlinkat",
             Operation::Write => "write",
         }
     }

@@ -10,8 +10,8 @@ use crate::operation::Operation;
 use crate::operation::Operation::{
     Chdir, ClockGetres, ClockGettime, ClockNanosleep, ClockSettime, Close, Dup, Dup2, Dup3, Exit,
     ExitGroup, Fcntl, Fcntl64, Getcwd, Getgid32, Getpid, Getrusage, Gettimeofday, Getuid32, Llseek,
-    Lseek, Nanosleep, Open, Openat, Pread64, Prlimit64, Pwrite64, Read, Setrlimit, Ugetrlimit,
-    Write,
+    Lseek, Mkdir, Mkdirat, Nanosleep, Open, Openat, Pread64, Prlimit64, Pwrite64, Read, Rename,
+    Rmdir, Setrlimit, Ugetrlimit, Unlink, Unlinkat, Write,
 };
 use Numbers::{ArmAlone, Both, By, Ia32Alone};
 use abi_registers::Form;
@@ -42,15 +42,19 @@ const S: Form = Form::Signed;
 const W: Form = Form::Word;
 
 /// The calls numbered 0 to 63.
-pub const CALLS_0: [Entry; 11] = [
+pub const CALLS_0: [Entry; 15] = [
     Entry(Exit, Both(1), 1, [S, W, W, W, W, W]),
     Entry(Read, Both(3), 3, [S, W, W, W, W, W]),
     Entry(Write, Both(4), 3, [S, W, W, W, W, W]),
     Entry(Open, Both(5), 3, [W, W, W, W, W, W]),
     Entry(Close, Both(6), 1, [S, W, W, W, W, W]),
+    Entry(Unlink, Both(10), 1, [W, W, W, W, W, W]),
     Entry(Chdir, Both(12), 1, [W, W, W, W, W, W]),
     Entry(Lseek, Both(19), 3, [S, S, W, W, W, W]),
     Entry(Getpid, Both(20), 0, [W, W, W, W, W, W]),
+    Entry(Rename, Both(38), 2, [W, W, W, W, W, W]),
+    Entry(Mkdir, Both(39), 2, [W, W, W, W, W, W]),
+    Entry(Rmdir, Both(40), 1, [W, W, W, W, W, W]),
     Entry(Dup, Both(41), 1, [S, W, W, W, W, W]),
     Entry(Fcntl, Both(55), 3, [S, W, W, W, W, W]),
     Entry(Dup2, Both(63), 2, [S, S, W, W, W, W]),
@@ -82,17 +86,21 @@ pub const CALLS_192: [Entry; 4] = [
 ];
 
 /// The calls numbered 256 to 319.
-pub const CALLS_256: [Entry; 5] = [
+pub const CALLS_256: [Entry; 7] = [
     Entry(ClockSettime, By(264, 262), 2, [S, W, W, W, W, W]),
     Entry(ClockGettime, By(265, 263), 2, [S, W, W, W, W, W]),
     Entry(ClockGetres, By(266, 264), 2, [S, W, W, W, W, W]),
     Entry(ClockNanosleep, By(267, 265), 4, [S, S, W, W, W, W]),
     Entry(Openat, Ia32Alone(295), 4, [S, W, W, W, W, W]),
+    Entry(Mkdirat, Ia32Alone(296), 3, [S, W, W, W, W, W]),
+    Entry(Unlinkat, Ia32Alone(301), 3, [S, W, S, W, W, W]),
 ];
 
 /// The calls numbered 320 to 383.
-pub const CALLS_320: [Entry; 3] = [
+pub const CALLS_320: [Entry; 5] = [
     Entry(Openat, ArmAlone(322), 4, [S, W, W, W, W, W]),
+    Entry(Mkdirat, ArmAlone(323), 3, [S, W, W, W, W, W]),
+    Entry(Unlinkat, ArmAlone(328), 3, [S, W, S, W, W, W]),
     Entry(Dup3, By(330, 358), 3, [S, S, W, W, W, W]),
     Entry(Prlimit64, By(340, 369), 4, [S, W, W, W, W, W]),
 ];

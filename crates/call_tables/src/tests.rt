@@ -4,15 +4,19 @@ use kernel_values::AbiKind::{ArmEabi, Ia32};
 use std::test::*;
 
 /// A call with its numbers on i386 and arm, its name, its count, and its first forms.
-const CALLS: [(u32, u32, &[u8], usize, [Form; 2]); 29] = [
+const CALLS: [(u32, u32, &[u8], usize, [Form; 2]); 34] = [
     (1, 1, b"exit", 1, [Signed, Word]),
     (3, 3, b"read", 3, [Signed, Word]),
     (4, 4, b"write", 3, [Signed, Word]),
     (5, 5, b"open", 3, [Word, Word]),
     (6, 6, b"close", 1, [Signed, Word]),
+    (10, 10, b"unlink", 1, [Word, Word]),
     (12, 12, b"chdir", 1, [Word, Word]),
     (19, 19, b"lseek", 3, [Signed, Signed]),
     (20, 20, b"getpid", 0, [Word, Word]),
+    (38, 38, b"rename", 2, [Word, Word]),
+    (39, 39, b"mkdir", 2, [Word, Word]),
+    (40, 40, b"rmdir", 1, [Word, Word]),
     (41, 41, b"dup", 1, [Signed, Word]),
     (55, 55, b"fcntl", 3, [Signed, Word]),
     (63, 63, b"dup2", 2, [Signed, Signed]),
@@ -32,6 +36,7 @@ const CALLS: [(u32, u32, &[u8], usize, [Form; 2]); 29] = [
     (266, 264, b"clock_getres", 2, [Signed, Word]),
     (267, 265, b"clock_nanosleep", 4, [Signed, Signed]),
     (295, 322, b"openat", 4, [Signed, Word]),
+    (296, 323, b"mkdirat", 3, [Signed, Word]),
     (330, 358, b"dup3", 3, [Signed, Signed]),
     (340, 369, b"prlimit64", 4, [Signed, Word]),
 ];
@@ -67,10 +72,21 @@ fn offsets_are_pairs(rt: HostRuntime) -> Result<(), Fail> {
 }
 
 #[test]
+fn the_flags_of_unlinkat_are_signed(rt: HostRuntime) -> Result<(), Fail> {
+    for (abi, number) in [(Ia32, 301), (ArmEabi, 328)] {
+        let row = find_row(abi, number).ok_or("no row")?;
+        assert_eq!(rt; row.operation.name(), "unlinkat");
+        assert_eq!(rt; row.count, 3);
+        assert_eq!(rt; row.forms, [Signed, Word, Signed, Word, Word, Word]);
+    }
+    Ok(())
+}
+
+#[test]
 fn other_numbers_have_no_row(rt: HostRuntime) {
     for abi in [Ia32, ArmEabi] {
         let rows = (0..1024).filter(|number| find_row(abi, *number).is_some());
-        assert_eq!(rt; rows.count(), CALLS.len() + 2);
+        assert_eq!(rt; rows.count(), CALLS.len() + 3);
         for number in [0xf_0000, 0xf_0002, 0xf_0005, 0x7fff_ffff, 0xffff_ffff] {
             assert!(rt; find_row(abi, number).is_none(), "at {number}");
         }

@@ -4,9 +4,10 @@ use Rattle.native_kernel.specs.declared.state.Kernel.{Kernel}
 use Rattle.abi_registers.specs.declared.arguments.Args.{Args}
 use Rattle.layout_laws.specs.Abis.{AbiRules}
 use Rattle.call_tables.specs.declared.operation.Operation.{Operation}
-use Rattle.call_tables.specs.declared.operation.Operation.TheVariants.{Chdir, ClockGetres, ClockGettime, ClockNanosleep, ClockSettime, Close, Dup, Dup2, Dup3, Exit, ExitGroup, Fcntl, Fcntl64, Getcwd, Getgid32, Getpid, Getrusage, Gettimeofday, Getuid32, Llseek, Lseek, Nanosleep, Open, Openat, Pread64, Prlimit64, Pwrite64, Read, Setrlimit, Ugetrlimit, Write}
+use Rattle.call_tables.specs.declared.operation.Operation.TheVariants.{Chdir, ClockGetres, ClockGettime, ClockNanosleep, ClockSettime, Close, Dup, Dup2, Dup3, Exit, ExitGroup, Fcntl, Fcntl64, Getcwd, Getgid32, Getpid, Getrusage, Gettimeofday, Getuid32, Llseek, Lseek, Mkdir, Mkdirat, Nanosleep, Open, Openat, Pread64, Prlimit64, Pwrite64, Read, Rename, Rmdir, Setrlimit, Ugetrlimit, Unlink, Unlinkat, Write}
 use Rattle.served_calls.specs.Calls.{Memory, Served, served}
 use Rattle.file_calls.specs.Descriptors as descriptors
+use Rattle.file_calls.specs.Names as names
 use Rattle.file_calls.specs.Paths as paths
 use Rattle.file_calls.specs.Transfers as transfers
 use Rattle.compat_calls.specs.Identity as identity
@@ -35,6 +36,8 @@ served_by Gettimeofday abi args m k = served (times.gettimeofday abi args) m k
 served_by Getuid32 abi args m k = served (identity.getuid32 abi args) m k
 served_by Llseek abi args m k = served (transfers.llseek abi args) m k
 served_by Lseek abi args m k = served (transfers.lseek abi args) m k
+served_by Mkdir abi args m k = served (names.mkdir abi args) m k
+served_by Mkdirat abi args m k = served (names.mkdirat abi args) m k
 served_by Nanosleep abi args m k = served (times.nanosleep abi args) m k
 served_by Open abi args m k = served (paths.open_path abi args) m k
 served_by Openat abi args m k = served (paths.open_path_at abi args) m k
@@ -42,14 +45,18 @@ served_by Pread64 abi args m k = served (transfers.pread64 abi args) m k
 served_by Prlimit64 abi args m k = served (limits.prlimit64 abi args) m k
 served_by Pwrite64 abi args m k = served (transfers.pwrite64 abi args) m k
 served_by Read abi args m k = served (transfers.read abi args) m k
+served_by Rename abi args m k = served (names.rename abi args) m k
+served_by Rmdir abi args m k = served (names.rmdir abi args) m k
 served_by Setrlimit abi args m k = served (limits.setrlimit abi args) m k
 served_by Ugetrlimit abi args m k = served (limits.ugetrlimit abi args) m k
+served_by Unlink abi args m k = served (names.unlink abi args) m k
+served_by Unlinkat abi args m k = served (names.unlinkat abi args) m k
 served_by Write abi args m k = served (transfers.write abi args) m k
 
 unfoldable pub served_call : Operation → AbiRules → Args → Memory → Kernel → Served
 served_call operation abi args m k = served_by operation abi args m k
 
--- The call may take memory: those that open or copy a descriptor, move bytes, or tell the working directory.
+-- The call may take memory: those that open or copy a descriptor, move bytes, make or move a name, or tell the working directory.
 unfoldable pub takes_memory : Operation → Bool
 takes_memory Chdir = false
 takes_memory ClockGetres = false
@@ -72,6 +79,8 @@ takes_memory Gettimeofday = false
 takes_memory Getuid32 = false
 takes_memory Llseek = false
 takes_memory Lseek = false
+takes_memory Mkdir = true
+takes_memory Mkdirat = true
 takes_memory Nanosleep = false
 takes_memory Open = true
 takes_memory Openat = true
@@ -79,6 +88,10 @@ takes_memory Pread64 = true
 takes_memory Prlimit64 = false
 takes_memory Pwrite64 = true
 takes_memory Read = true
+takes_memory Rename = true
+takes_memory Rmdir = false
 takes_memory Setrlimit = false
 takes_memory Ugetrlimit = false
+takes_memory Unlink = false
+takes_memory Unlinkat = false
 takes_memory Write = true

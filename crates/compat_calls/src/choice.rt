@@ -7,7 +7,7 @@ ghost use Rattle.compat_calls.specs.Choice.{served_call, takes_memory};
 use crate::{identity, limits, times};
 use abi_registers::Args;
 use call_tables::Operation;
-use file_calls::{descriptors, paths, transfers};
+use file_calls::{descriptors, names, paths, transfers};
 use kernel_values::Answer;
 use layout_laws::Compat;
 use native_kernel::Kernel;
@@ -47,6 +47,8 @@ pub fn serve_row<A: Compat>(
         Operation::Getuid32 => identity::getuid32::<A>(memory, kernel, args),
         Operation::Llseek => transfers::llseek::<A>(memory, kernel, args),
         Operation::Lseek => transfers::lseek::<A>(memory, kernel, args),
+        Operation::Mkdir => names::mkdir::<A>(alloc, memory, kernel, args),
+        Operation::Mkdirat => names::mkdirat::<A>(alloc, memory, kernel, args),
         Operation::Nanosleep => times::nanosleep::<A>(memory, kernel, args),
         Operation::Open => paths::open_path::<A>(alloc, memory, kernel, args),
         Operation::Openat => paths::open_path_at::<A>(alloc, memory, kernel, args),
@@ -54,8 +56,12 @@ pub fn serve_row<A: Compat>(
         Operation::Prlimit64 => limits::prlimit64::<A>(memory, kernel, args),
         Operation::Pwrite64 => transfers::pwrite64::<A>(alloc, memory, kernel, args),
         Operation::Read => transfers::read::<A>(alloc, memory, kernel, args),
+        Operation::Rename => names::rename::<A>(alloc, memory, kernel, args),
+        Operation::Rmdir => names::rmdir::<A>(memory, kernel, args),
         Operation::Setrlimit => limits::setrlimit::<A>(memory, kernel, args),
         Operation::Ugetrlimit => limits::ugetrlimit::<A>(memory, kernel, args),
+        Operation::Unlink => names::unlink::<A>(memory, kernel, args),
+        Operation::Unlinkat => names::unlinkat::<A>(memory, kernel, args),
         Operation::Write => transfers::write::<A>(alloc, memory, kernel, args),
     }
 }

@@ -1,4 +1,5 @@
 pub mod Commands
 pub mod Descriptors
+pub mod Names
 pub mod Paths
 pub mod Transfers

@@ -3,6 +3,7 @@
 
 pub mod commands;
 pub mod descriptors;
+pub mod names;
 pub mod paths;
 #[cfg(test)]
 mod tests;

@@ -13,7 +13,7 @@ use std::alloc::Global;
 use user_memory::UserMemory;
 
 /// `AT_FDCWD` of `include/uapi/linux/fcntl.h`: from the working directory.
-const AT_FDCWD: i64 = -100;
+pub(crate) const AT_FDCWD: i64 = -100;
 
 /// open(path, flags, mode)
 #[tactic(auto, unfolding(crate::specs::Paths::open_path))]

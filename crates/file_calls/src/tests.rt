@@ -2,6 +2,7 @@
 //! nothing of the state, however large that is.
 
 use crate::descriptors::{close, dup, dup2, dup3, fcntl};
+use crate::names::{mkdir, mkdirat, rename, rmdir, unlink, unlinkat};
 use crate::paths::{chdir, getcwd, open_path, open_path_at};
 use crate::transfers::{llseek, lseek, pread64, pwrite64, read, write};
 use abi_registers::Args;
@@ -29,7 +30,11 @@ const EBADF: i64 = -9;
 
 const EFAULT: i64 = -14;
 
+const EEXIST: i64 = -17;
+
 const ENOTDIR: i64 = -20;
+
+const EISDIR: i64 = -21;
 
 const EINVAL: i64 = -22;
 
@@ -64,6 +69,12 @@ enum Row {
     Dup2,
     Dup3,
     Fcntl,
+    Mkdir,
+    Mkdirat,
+    Rmdir,
+    Unlink,
+    Unlinkat,
+    Rename,
 }
 
 #[derive(Drop)]
@@ -139,6 +150,18 @@ fn descriptor_call<A: Compat>(world: &mut World, row: Row, args: &Args) -> Answe
     }
 }
 
+fn name_call<A: Compat>(alloc: Global, world: &mut World, row: Row, args: &Args) -> Answer<u32> {
+    let World { memory, kernel } = world;
+    match row {
+        Row::Mkdir => mkdir::<A>(alloc, memory, kernel, args),
+        Row::Mkdirat => mkdirat::<A>(alloc, memory, kernel, args),
+        Row::Rmdir => rmdir::<A>(memory, kernel, args),
+        Row::Unlink => unlink::<A>(memory, kernel, args),
+        Row::Unlinkat => unlinkat::<A>(memory, kernel, args),
+        _ => rename::<A>(alloc, memory, kernel, args),
+    }
+}
+
 fn served<A: Compat>(alloc: Global, world: &mut World, row: Row, args: &Args) -> Answer<u32> {
     match row {
         Row::Open | Row::OpenAt | Row::Chdir | Row::Getcwd => {
@@ -147,6 +170,8 @@ fn served<A: Compat>(alloc: Global, world: &mut World, row: Row, args: &Args) ->
         Row::Close | Row::Dup | Row::Dup2 | Row::Dup3 | Row::Fcntl => {
             descriptor_call::<A>(world, row, args)
         }
+        Row::Mkdir | Row::Mkdirat | Row::Rmdir | Row::Unlink | Row::Unlinkat | Row::Rename =>
+            name_call::<A>(alloc, world, row, args),
         _ => transfer::<A>(alloc, world, row, args),
     }
 }
@@ -319,5 +344,25 @@ fn commands_are_served_on_arm(rt: HostRuntime) -> Result<(), Fail> {
         (Row::Fcntl, [9, 1_031, 0, 0], EBADF),
     ];
     are_served::<ArmEabi>(&rt, rt.alloc(), &mut world, &calls);
+    Ok(())
+}
+
+#[test]
+fn names_are_made_moved_and_removed(rt: HostRuntime) -> Result<(), Fail> {
+    let mut world = start(rt.alloc()).ok_or("memory")?;
+    let calls = [
+        (Row::Mkdir, [0x1030, 0o755, 0, 0], 0),
+        (Row::Mkdir, [0x1030, 0o755, 0, 0], EEXIST),
+        (Row::Unlink, [0x1030, 0, 0, 0], EISDIR),
+        (Row::Rmdir, [0x1030, 0, 0, 0], 0),
+        (Row::Mkdirat, [-100, 0x1030, 0, 0], 0),
+        (Row::Unlinkat, [-100, 0x1030, 0x200, 0], 0),
+        (Row::Rename, [0x1000, 0x1030, 0, 0], 0),
+        (Row::Unlinkat, [-100, 0x1030, 1, 0], EINVAL),
+        (Row::Unlink, [0x1030, 0, 0, 0], 0),
+        (Row::Unlink, [0x1000, 0, 0, 0], ENOENT),
+        (Row::Rename, [0x5000, 0x1030, 0, 0], EFAULT),
+    ];
+    are_served::<Ia32>(&rt, rt.alloc(), &mut world, &calls);
     Ok(())
 }

@@ -1,1 +1,4 @@
+pub mod Directories
+pub mod Locks
 pub mod Positions
+pub mod Stats

@@ -1,9 +1,18 @@
 //! What calls on files store for 32-bit processes, by the Linux UAPI headers for i386 and arm.
 #![tactic(auto)]
 
+pub mod directories;
+pub mod locks;
 pub mod positions;
+pub mod stat;
+pub mod stat64;
+mod words;
 
+pub use directories::{DirentFault, put_dirent};
+pub use locks::{Lock32, Lock64};
 pub use positions::Position64;
+pub use stat::Stat32;
+pub use stat64::Stat64;
 
 #[cfg(test)]
 mod tests;

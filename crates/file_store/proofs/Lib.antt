@@ -8,3 +8,4 @@ pub mod Ordered
 pub mod Moves
 pub mod Closings
 pub mod FileItems
+pub mod Insides

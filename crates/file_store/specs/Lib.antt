@@ -17,3 +17,7 @@ pub mod Working
 pub mod Image
 pub mod Items
 pub mod Closing
+pub mod NewDirectory
+pub mod Removing
+pub mod Renaming
+pub mod Listing

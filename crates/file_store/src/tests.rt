@@ -3,6 +3,8 @@ use kernel_values::{AbiKind, Answer, KernelFault, OpenFlags, TimeSpec};
 use std::alloc::Global;
 use std::test::Fail;
 
+mod directories;
+
 const LIMIT: u64 = 1024;
 
 const MAKER: Maker = Maker {

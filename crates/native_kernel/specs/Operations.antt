@@ -1,10 +1,11 @@
 -- One definition for each call of the kernel: its answer, and the state after it. A row opens none.
-use Rattle.std.specs.Prelude.{Bool, ℕ, ℤ, negsuc, List, Some, None, Result, ⊤}
+use Rattle.std.specs.Prelude.{Bool, ℕ, ℤ, negsuc, List, Option, Some, None, Result, ⊤}
 use Rattle.kernel_values.specs.declared.errno.Errno.{Errno}
 use Rattle.kernel_values.specs.declared.times.Limit.{Limit}
 use Rattle.kernel_values.specs.declared.times.Usage.{Usage}
 use Rattle.kernel_values.specs.declared.times.TimeSpec.{TimeSpec}
 use Rattle.kernel_values.specs.declared.identity.Credentials.{Credentials}
+use Rattle.kernel_values.specs.declared.listing.DirEntry.{DirEntry}
 use Rattle.kernel_values.specs.declared.open_flags.OpenFlags.{OpenFlags}
 use Rattle.kernel_values.specs.Times.{time_of}
 use Rattle.file_store.specs.declared.state.Maker.{Maker}
@@ -13,7 +14,11 @@ use Rattle.file_store.specs.Closing as closing
 use Rattle.file_store.specs.Descriptors as descriptors
 use Rattle.file_store.specs.Image as image
 use Rattle.file_store.specs.Image.{fresh_files}
+use Rattle.file_store.specs.Listing as listing
+use Rattle.file_store.specs.NewDirectory as new_directory
 use Rattle.file_store.specs.Opening as opening
+use Rattle.file_store.specs.Removing as removing
+use Rattle.file_store.specs.Renaming as renaming
 use Rattle.file_store.specs.Transfers as transfers
 use Rattle.file_store.specs.Working as working
 use Rattle.native_kernel.specs.declared.state.Kernel.{Kernel}
@@ -100,6 +105,18 @@ open_flags k fd = on_files k (descriptors.open_flags k.files fd)
 
 unfoldable pub set_open_flags : Kernel → ℤ → OpenFlags → Result ⊤ Errno × Kernel
 set_open_flags k fd flags = on_files k (descriptors.set_open_flags k.files fd flags)
+
+unfoldable pub make_dir : Kernel → ℤ → List ℕ → ℕ → Result ⊤ Errno × Kernel
+make_dir k from path mode = on_files k (new_directory.make_directory k.files (maker k) from path mode)
+
+unfoldable pub remove : Kernel → ℤ → List ℕ → ℤ → Result ⊤ Errno × Kernel
+remove k from path flags = on_files k (removing.remove k.files (time_of k.clocks.real) from path flags)
+
+unfoldable pub rename_path : Kernel → List ℕ → List ℕ → Result ⊤ Errno × Kernel
+rename_path k old new = on_files k (renaming.rename k.files (time_of k.clocks.real) old new)
+
+unfoldable pub entry_after : Kernel → ℤ → ℕ → Result (Option DirEntry) Errno
+entry_after k fd position = listing.entry_after k.files fd position
 
 unfoldable pub change_dir : Kernel → List ℕ → Result ⊤ Errno × Kernel
 change_dir k path = on_files k (working.change_directory k.files (negsuc 99) path)

@@ -144,6 +144,27 @@ impl Desk {
         }
     }
 
+    fn make(&mut self, path: &[u8]) -> i64 {
+        done(self.kernel.make_dir(self.alloc, WORKING, path, 0o755))
+    }
+
+    fn remove(&mut self, path: &[u8], flags: i64) -> i64 {
+        done(self.kernel.remove(WORKING, path, flags))
+    }
+
+    fn rename(&mut self, old: &[u8], new: &[u8]) -> i64 {
+        done(self.kernel.rename(self.alloc, old, new))
+    }
+
+    /// The inode of the first entry behind a position, and 0 for none.
+    fn entry(&self, fd: i64, position: u64) -> i64 {
+        match self.kernel.entry_after(self.alloc, fd, position) {
+            Ok(Some(entry)) => i64::try_from(entry.inode).unwrap_or(-1),
+            Ok(None) => 0,
+            Err(fault) => told_fault(fault),
+        }
+    }
+
     fn limit_stack(&mut self) -> i64 {
         done(self.kernel.set_limit(3, &Limit { soft: 1, hard: 2 }))
     }
@@ -218,6 +239,25 @@ fn the_working_directory_is_changed(rt: HostRuntime) -> Result<(), Fail> {
     assert_eq!(rt; desk.enter(b"d"), 0);
     assert!(rt; desk.is_at(b"/d\0"));
     assert_eq!(rt; desk.open(b"new", 0x41), 0);
+    Ok(())
+}
+
+#[test]
+fn names_are_made_moved_listed_and_removed(rt: HostRuntime) -> Result<(), Fail> {
+    let mut desk = image(rt.alloc())?;
+    assert_eq!(rt; desk.make(b"/d/new"), 0);
+    assert_eq!(rt; desk.make(b"/d/new"), -17);
+    assert_eq!(rt; desk.rename(b"/f", b"/d/f"), 0);
+    assert_eq!(rt; desk.open(b"/d", 0), 0);
+    assert_eq!(rt; desk.entry(0, 0), 6);
+    assert_eq!(rt; desk.entry(0, 1), 2);
+    assert_eq!(rt; desk.entry(0, 2), 0x1000);
+    assert_eq!(rt; desk.entry(0, 3), 7);
+    assert_eq!(rt; desk.entry(0, 4), 0);
+    assert_eq!(rt; desk.remove(b"/d/new", 0), -21);
+    assert_eq!(rt; desk.remove(b"/d/new", 0x200), 0);
+    assert_eq!(rt; desk.remove(b"/d/f", 0), 0);
+    assert_eq!(rt; desk.remove(b"/d", 0x200), -16);
     Ok(())
 }
 

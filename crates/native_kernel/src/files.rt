@@ -22,7 +22,7 @@ impl Kernel {
 
     /// Who makes a file, and when.
     #[tactic(auto, unfolding(crate::specs::Operations::maker))]
-    fn maker(&self) -> Maker
+    pub(crate) fn maker(&self) -> Maker
         ensures { result ≡ maker self.now }
     {
         Maker {

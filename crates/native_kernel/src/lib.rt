@@ -2,6 +2,7 @@
 #![tactic(auto)]
 
 mod clocks;
+mod directories;
 mod files;
 mod fresh;
 mod identity;
