@@ -6,12 +6,21 @@
 //! arm fall into different ranges has two lines, an `Ia32Alone` and an `ArmAlone`. Within a table the
 //! lines ascend by the number, that of i386 where there are two. A table stays below thirty lines or
 //! so, since a constant of a hundred is too large to be proved.
+use crate::operation::DescriptorOperation::{Close, Dup, Dup2, Dup3, Fcntl, Fcntl64};
+use crate::operation::FileOperation::{Descriptor, Length, Name, Path, Status, Transfer};
+use crate::operation::LengthOperation::{Fallocate, Ftruncate, Ftruncate64, Truncate, Truncate64};
+use crate::operation::LimitOperation::{Getrusage, Prlimit64, Setrlimit, Ugetrlimit};
+use crate::operation::NameOperation::{Mkdir, Mkdirat, Rename, Rmdir, Unlink, Unlinkat};
 use crate::operation::Operation;
-use crate::operation::Operation::{
-    Chdir, ClockGetres, ClockGettime, ClockNanosleep, ClockSettime, Close, Dup, Dup2, Dup3, Exit,
-    ExitGroup, Fcntl, Fcntl64, Getcwd, Getgid32, Getpid, Getrusage, Gettimeofday, Getuid32, Llseek,
-    Lseek, Mkdir, Mkdirat, Nanosleep, Open, Openat, Pread64, Prlimit64, Pwrite64, Read, Rename,
-    Rmdir, Setrlimit, Ugetrlimit, Unlink, Unlinkat, Write,
+use crate::operation::Operation::{File, Limit, Process, Time};
+use crate::operation::PathOperation::{Chdir, Getcwd, Open, Openat};
+use crate::operation::ProcessOperation::{Exit, ExitGroup, Getgid32, Getpid, Getuid32};
+use crate::operation::StatusOperation::{Fstat, Fstat64, Fstatat64, Stat, Stat64, Utimensat};
+use crate::operation::TimeOperation::{
+    ClockGetres, ClockGettime, ClockNanosleep, ClockSettime, Gettimeofday, Nanosleep,
+};
+use crate::operation::TransferOperation::{
+    Getdents, Getdents64, Llseek, Lseek, Pread64, Pwrite64, Read, Write,
 };
 use Numbers::{ArmAlone, Both, By, Ia32Alone};
 use abi_registers::Form;
@@ -43,64 +52,93 @@ const W: Form = Form::Word;
 
 /// The calls numbered 0 to 63.
 pub const CALLS_0: [Entry; 15] = [
-    Entry(Exit, Both(1), 1, [S, W, W, W, W, W]),
-    Entry(Read, Both(3), 3, [S, W, W, W, W, W]),
-    Entry(Write, Both(4), 3, [S, W, W, W, W, W]),
-    Entry(Open, Both(5), 3, [W, W, W, W, W, W]),
-    Entry(Close, Both(6), 1, [S, W, W, W, W, W]),
-    Entry(Unlink, Both(10), 1, [W, W, W, W, W, W]),
-    Entry(Chdir, Both(12), 1, [W, W, W, W, W, W]),
-    Entry(Lseek, Both(19), 3, [S, S, W, W, W, W]),
-    Entry(Getpid, Both(20), 0, [W, W, W, W, W, W]),
-    Entry(Rename, Both(38), 2, [W, W, W, W, W, W]),
-    Entry(Mkdir, Both(39), 2, [W, W, W, W, W, W]),
-    Entry(Rmdir, Both(40), 1, [W, W, W, W, W, W]),
-    Entry(Dup, Both(41), 1, [S, W, W, W, W, W]),
-    Entry(Fcntl, Both(55), 3, [S, W, W, W, W, W]),
-    Entry(Dup2, Both(63), 2, [S, S, W, W, W, W]),
+    Entry(Process(Exit), Both(1), 1, [S, W, W, W, W, W]),
+    Entry(File(Transfer(Read)), Both(3), 3, [S, W, W, W, W, W]),
+    Entry(File(Transfer(Write)), Both(4), 3, [S, W, W, W, W, W]),
+    Entry(File(Path(Open)), Both(5), 3, [W, W, W, W, W, W]),
+    Entry(File(Descriptor(Close)), Both(6), 1, [S, W, W, W, W, W]),
+    Entry(File(Name(Unlink)), Both(10), 1, [W, W, W, W, W, W]),
+    Entry(File(Path(Chdir)), Both(12), 1, [W, W, W, W, W, W]),
+    Entry(File(Transfer(Lseek)), Both(19), 3, [S, S, W, W, W, W]),
+    Entry(Process(Getpid), Both(20), 0, [W, W, W, W, W, W]),
+    Entry(File(Name(Rename)), Both(38), 2, [W, W, W, W, W, W]),
+    Entry(File(Name(Mkdir)), Both(39), 2, [W, W, W, W, W, W]),
+    Entry(File(Name(Rmdir)), Both(40), 1, [W, W, W, W, W, W]),
+    Entry(File(Descriptor(Dup)), Both(41), 1, [S, W, W, W, W, W]),
+    Entry(File(Descriptor(Fcntl)), Both(55), 3, [S, W, W, W, W, W]),
+    Entry(File(Descriptor(Dup2)), Both(63), 2, [S, S, W, W, W, W]),
 ];
 
 /// The calls numbered 64 to 127.
-pub const CALLS_64: [Entry; 3] = [
-    Entry(Setrlimit, Both(75), 2, [W, W, W, W, W, W]),
-    Entry(Getrusage, Both(77), 2, [S, W, W, W, W, W]),
-    Entry(Gettimeofday, Both(78), 2, [W, W, W, W, W, W]),
+pub const CALLS_64: [Entry; 7] = [
+    Entry(Limit(Setrlimit), Both(75), 2, [W, W, W, W, W, W]),
+    Entry(Limit(Getrusage), Both(77), 2, [S, W, W, W, W, W]),
+    Entry(Time(Gettimeofday), Both(78), 2, [W, W, W, W, W, W]),
+    Entry(File(Length(Truncate)), Both(92), 2, [W, S, W, W, W, W]),
+    Entry(File(Length(Ftruncate)), Both(93), 2, [S, S, W, W, W, W]),
+    Entry(File(Status(Stat)), Both(106), 2, [W, W, W, W, W, W]),
+    Entry(File(Status(Fstat)), Both(108), 2, [S, W, W, W, W, W]),
 ];
 
 /// The calls numbered 128 to 191.
-pub const CALLS_128: [Entry; 6] = [
-    Entry(Llseek, Both(140), 5, [S, W, W, W, W, W]),
-    Entry(Nanosleep, Both(162), 2, [W, W, W, W, W, W]),
-    Entry(Pread64, Both(180), 4, [S, W, W, Q, W, W]),
-    Entry(Pwrite64, Both(181), 4, [S, W, W, Q, W, W]),
-    Entry(Getcwd, Both(183), 2, [W, W, W, W, W, W]),
-    Entry(Ugetrlimit, Both(191), 2, [W, W, W, W, W, W]),
+pub const CALLS_128: [Entry; 7] = [
+    Entry(File(Transfer(Llseek)), Both(140), 5, [S, W, W, W, W, W]),
+    Entry(File(Transfer(Getdents)), Both(141), 3, [S, W, W, W, W, W]),
+    Entry(Time(Nanosleep), Both(162), 2, [W, W, W, W, W, W]),
+    Entry(File(Transfer(Pread64)), Both(180), 4, [S, W, W, Q, W, W]),
+    Entry(File(Transfer(Pwrite64)), Both(181), 4, [S, W, W, Q, W, W]),
+    Entry(File(Path(Getcwd)), Both(183), 2, [W, W, W, W, W, W]),
+    Entry(Limit(Ugetrlimit), Both(191), 2, [W, W, W, W, W, W]),
 ];
 
 /// The calls numbered 192 to 255.
-pub const CALLS_192: [Entry; 4] = [
-    Entry(Getuid32, Both(199), 0, [W, W, W, W, W, W]),
-    Entry(Getgid32, Both(200), 0, [W, W, W, W, W, W]),
-    Entry(Fcntl64, Both(221), 3, [S, W, W, W, W, W]),
-    Entry(ExitGroup, By(252, 248), 1, [S, W, W, W, W, W]),
+pub const CALLS_192: [Entry; 9] = [
+    Entry(File(Length(Truncate64)), Both(193), 2, [W, Q, W, W, W, W]),
+    Entry(File(Length(Ftruncate64)), Both(194), 2, [S, Q, W, W, W, W]),
+    Entry(File(Status(Stat64)), Both(195), 2, [W, W, W, W, W, W]),
+    Entry(File(Status(Fstat64)), Both(197), 2, [S, W, W, W, W, W]),
+    Entry(Process(Getuid32), Both(199), 0, [W, W, W, W, W, W]),
+    Entry(Process(Getgid32), Both(200), 0, [W, W, W, W, W, W]),
+    Entry(
+        File(Transfer(Getdents64)),
+        By(220, 217),
+        3,
+        [S, W, W, W, W, W],
+    ),
+    Entry(File(Descriptor(Fcntl64)), Both(221), 3, [S, W, W, W, W, W]),
+    Entry(Process(ExitGroup), By(252, 248), 1, [S, W, W, W, W, W]),
 ];
 
 /// The calls numbered 256 to 319.
-pub const CALLS_256: [Entry; 7] = [
-    Entry(ClockSettime, By(264, 262), 2, [S, W, W, W, W, W]),
-    Entry(ClockGettime, By(265, 263), 2, [S, W, W, W, W, W]),
-    Entry(ClockGetres, By(266, 264), 2, [S, W, W, W, W, W]),
-    Entry(ClockNanosleep, By(267, 265), 4, [S, S, W, W, W, W]),
-    Entry(Openat, Ia32Alone(295), 4, [S, W, W, W, W, W]),
-    Entry(Mkdirat, Ia32Alone(296), 3, [S, W, W, W, W, W]),
-    Entry(Unlinkat, Ia32Alone(301), 3, [S, W, S, W, W, W]),
+pub const CALLS_256: [Entry; 8] = [
+    Entry(Time(ClockSettime), By(264, 262), 2, [S, W, W, W, W, W]),
+    Entry(Time(ClockGettime), By(265, 263), 2, [S, W, W, W, W, W]),
+    Entry(Time(ClockGetres), By(266, 264), 2, [S, W, W, W, W, W]),
+    Entry(Time(ClockNanosleep), By(267, 265), 4, [S, S, W, W, W, W]),
+    Entry(File(Path(Openat)), Ia32Alone(295), 4, [S, W, W, W, W, W]),
+    Entry(File(Name(Mkdirat)), Ia32Alone(296), 3, [S, W, W, W, W, W]),
+    Entry(
+        File(Status(Fstatat64)),
+        Ia32Alone(300),
+        4,
+        [S, W, W, S, W, W],
+    ),
+    Entry(File(Name(Unlinkat)), Ia32Alone(301), 3, [S, W, S, W, W, W]),
 ];
 
 /// The calls numbered 320 to 383.
-pub const CALLS_320: [Entry; 5] = [
-    Entry(Openat, ArmAlone(322), 4, [S, W, W, W, W, W]),
-    Entry(Mkdirat, ArmAlone(323), 3, [S, W, W, W, W, W]),
-    Entry(Unlinkat, ArmAlone(328), 3, [S, W, S, W, W, W]),
-    Entry(Dup3, By(330, 358), 3, [S, S, W, W, W, W]),
-    Entry(Prlimit64, By(340, 369), 4, [S, W, W, W, W, W]),
+pub const CALLS_320: [Entry; 8] = [
+    Entry(File(Status(Utimensat)), By(320, 348), 4, [S, W, W, S, W, W]),
+    Entry(File(Path(Openat)), ArmAlone(322), 4, [S, W, W, W, W, W]),
+    Entry(File(Name(Mkdirat)), ArmAlone(323), 3, [S, W, W, W, W, W]),
+    Entry(File(Length(Fallocate)), By(324, 352), 4, [S, S, Q, Q, W, W]),
+    Entry(
+        File(Status(Fstatat64)),
+        ArmAlone(327),
+        4,
+        [S, W, W, S, W, W],
+    ),
+    Entry(File(Name(Unlinkat)), ArmAlone(328), 3, [S, W, S, W, W, W]),
+    Entry(File(Descriptor(Dup3)), By(330, 358), 3, [S, S, W, W, W, W]),
+    Entry(Limit(Prlimit64), By(340, 369), 4, [S, W, W, W, W, W]),
 ];

@@ -1,10 +1,10 @@
-use crate::{Operation, find_row};
+use crate::{Operation, TimeOperation, find_row};
 use abi_registers::Form::{self, Pair, Signed, Word};
 use kernel_values::AbiKind::{ArmEabi, Ia32};
 use std::test::*;
 
 /// A call with its numbers on i386 and arm, its name, its count, and its first forms.
-const CALLS: [(u32, u32, &[u8], usize, [Form; 2]); 34] = [
+const CALLS: [(u32, u32, &[u8], usize, [Form; 2]); 44] = [
     (1, 1, b"exit", 1, [Signed, Word]),
     (3, 3, b"read", 3, [Signed, Word]),
     (4, 4, b"write", 3, [Signed, Word]),
@@ -23,12 +23,22 @@ const CALLS: [(u32, u32, &[u8], usize, [Form; 2]); 34] = [
     (75, 75, b"setrlimit", 2, [Word, Word]),
     (77, 77, b"getrusage", 2, [Signed, Word]),
     (78, 78, b"gettimeofday", 2, [Word, Word]),
+    (92, 92, b"truncate", 2, [Word, Signed]),
+    (93, 93, b"ftruncate", 2, [Signed, Signed]),
+    (106, 106, b"stat", 2, [Word, Word]),
+    (108, 108, b"fstat", 2, [Signed, Word]),
     (140, 140, b"_llseek", 5, [Signed, Word]),
+    (141, 141, b"getdents", 3, [Signed, Word]),
     (162, 162, b"nanosleep", 2, [Word, Word]),
     (183, 183, b"getcwd", 2, [Word, Word]),
     (191, 191, b"ugetrlimit", 2, [Word, Word]),
+    (193, 193, b"truncate64", 2, [Word, Pair]),
+    (194, 194, b"ftruncate64", 2, [Signed, Pair]),
+    (195, 195, b"stat64", 2, [Word, Word]),
+    (197, 197, b"fstat64", 2, [Signed, Word]),
     (199, 199, b"getuid32", 0, [Word, Word]),
     (200, 200, b"getgid32", 0, [Word, Word]),
+    (220, 217, b"getdents64", 3, [Signed, Word]),
     (221, 221, b"fcntl64", 3, [Signed, Word]),
     (252, 248, b"exit_group", 1, [Signed, Word]),
     (264, 262, b"clock_settime", 2, [Signed, Word]),
@@ -71,13 +81,23 @@ fn offsets_are_pairs(rt: HostRuntime) -> Result<(), Fail> {
     Ok(())
 }
 
+/// A call with its numbers on i386 and arm, its name, its count, and its first four forms.
+const CALLS_OF_MORE_FORMS: [(u32, u32, &[u8], usize, [Form; 4]); 4] = [
+    (300, 327, b"fstatat64", 4, [Signed, Word, Word, Signed]),
+    (301, 328, b"unlinkat", 3, [Signed, Word, Signed, Word]),
+    (320, 348, b"utimensat", 4, [Signed, Word, Word, Signed]),
+    (324, 352, b"fallocate", 4, [Signed, Signed, Pair, Pair]),
+];
+
 #[test]
-fn the_flags_of_unlinkat_are_signed(rt: HostRuntime) -> Result<(), Fail> {
-    for (abi, number) in [(Ia32, 301), (ArmEabi, 328)] {
-        let row = find_row(abi, number).ok_or("no row")?;
-        assert_eq!(rt; row.operation.name(), "unlinkat");
-        assert_eq!(rt; row.count, 3);
-        assert_eq!(rt; row.forms, [Signed, Word, Signed, Word, Word, Word]);
+fn later_flags_are_signed_and_lengths_are_pairs(rt: HostRuntime) -> Result<(), Fail> {
+    for (ia32, arm, name, count, [first, second, third, fourth]) in CALLS_OF_MORE_FORMS {
+        for (abi, number) in [(Ia32, ia32), (ArmEabi, arm)] {
+            let row = find_row(abi, number).ok_or("no row")?;
+            assert_eq!(rt; row.operation.name().as_bytes(), name);
+            assert_eq!(rt; row.count, count);
+            assert_eq!(rt; row.forms, [first, second, third, fourth, Word, Word]);
+        }
     }
     Ok(())
 }
@@ -86,7 +106,7 @@ fn the_flags_of_unlinkat_are_signed(rt: HostRuntime) -> Result<(), Fail> {
 fn other_numbers_have_no_row(rt: HostRuntime) {
     for abi in [Ia32, ArmEabi] {
         let rows = (0..1024).filter(|number| find_row(abi, *number).is_some());
-        assert_eq!(rt; rows.count(), CALLS.len() + 3);
+        assert_eq!(rt; rows.count(), CALLS.len() + CALLS_OF_MORE_FORMS.len() + 2);
         for number in [0xf_0000, 0xf_0002, 0xf_0005, 0x7fff_ffff, 0xffff_ffff] {
             assert!(rt; find_row(abi, number).is_none(), "at {number}");
         }
@@ -103,7 +123,13 @@ fn other_numbers_have_no_row(rt: HostRuntime) {
 fn one_number_means_two_calls(rt: HostRuntime) -> Result<(), Fail> {
     let on_ia32 = find_row(Ia32, 265).ok_or("no row on i386")?;
     let on_arm = find_row(ArmEabi, 265).ok_or("no row on arm")?;
-    assert_eq!(rt; on_ia32.operation, Operation::ClockGettime);
-    assert_eq!(rt; on_arm.operation, Operation::ClockNanosleep);
+    assert_eq!(rt;
+        on_ia32.operation,
+        Operation::Time(TimeOperation::ClockGettime)
+    );
+    assert_eq!(rt;
+        on_arm.operation,
+        Operation::Time(TimeOperation::ClockNanosleep)
+    );
     Ok(())
 }

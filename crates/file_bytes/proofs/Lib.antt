@@ -5,3 +5,4 @@ pub mod Contents
 pub mod FirstPage
 pub mod NextRun
 pub mod Runs
+pub mod Counts

@@ -21,7 +21,7 @@ run_of_page f start first n run later some fits clear filled ends at-is length-i
 }
 
 -- a byte of a page that is there
-byte_of_page : (pages : List (ℕ × List ℕ)) (page : List ℕ) (number i : ℕ) → at pages number ≡ Some page → i / 4096 ≡ number → byte_at pages i ≡ get_or page (i % 4096) 0
+pub byte_of_page : (pages : List (ℕ × List ℕ)) (page : List ℕ) (number i : ℕ) → at pages number ≡ Some page → i / 4096 ≡ number → byte_at pages i ≡ get_or page (i % 4096) 0
 unfolding byte_at
 byte_of_page pages page number i found e = rw (e, found) refl
 

@@ -12,11 +12,11 @@ use Rattle.file_bytes.proofs.Contents.{content_read, content_length, drop-row_fr
 abbrev runs_over : (ℕ → ℕ) → ℕ → ℕ → List (ℕ × List ℕ)
 runs_over f a n = runs_of a (row f a n)
 
-row_none : (f : ℕ → ℕ) (a : ℕ) → row f a 0 ≡ []
+pub row_none : (f : ℕ → ℕ) (a : ℕ) → row f a 0 ≡ []
 unfolding row
 row_none f a = refl
 
-row_one_more : (f : ℕ → ℕ) (a n : ℕ) → row f a (suc n) ≡ f a ∷ row f (a + 1) n
+pub row_one_more : (f : ℕ → ℕ) (a n : ℕ) → row f a (suc n) ≡ f a ∷ row f (a + 1) n
 unfolding row
 row_one_more f a n = refl
 

@@ -3,3 +3,4 @@ pub mod Row
 pub mod Pages
 pub mod Runs
 pub mod Search
+pub mod Filled

@@ -4,6 +4,7 @@ ghost use Rattle.std.specs.Prelude.{◌≡◌, ℕ, List, [], ◌+◌, ◌<◌, 
 ghost use Rattle.file_bytes.specs.Row.{resized, row, written};
 ghost use Rattle.file_bytes.specs.Pages.{byte_at};
 ghost use Rattle.file_bytes.specs.Runs.{runs_from};
+ghost use Rattle.file_bytes.specs.Filled.{filled_pages};
 
 use crate::pages::Pages;
 use crate::run::Run;
@@ -118,5 +119,14 @@ impl Content {
             (from ≤ r.at) × (0 < r.length) × (r.length ≤ 4096) × (r.at + r.length ≤ length self.now)) }
     {
         self.pages.next_run(from)
+    }
+    /// How many of its pages of 4,096 bytes hold a byte other than 0.
+    ///
+    /// It looks at no page that was never written. It takes no memory.
+    pub fn filled_pages(&self) -> u64
+        ensures count { result ≡ filled_pages self.now }
+        ensures limit { result ≤ 2 ^ 28 }
+    {
+        self.pages.filled_pages()
     }
 }

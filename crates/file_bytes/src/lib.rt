@@ -2,6 +2,7 @@
 #![tactic(auto)]
 
 mod content;
+mod filled;
 mod page;
 mod pages;
 mod run;

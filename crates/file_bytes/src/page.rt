@@ -3,6 +3,7 @@
 ghost use Rattle.std.specs.Prelude.{◌≡◌, ℕ, List, ◌+◌, ◌-◌, ◌<◌, ◌≤◌, ◌++◌, length, take, drop, replicate, slice_index, IfSome, IfOk, OnOk};
 ghost use Rattle.file_bytes.specs.Row.{laid};
 ghost use Rattle.file_bytes.specs.Search.{IsNext};
+ghost use Rattle.file_bytes.specs.Filled.{has_filled};
 
 use crate::run::Run;
 use crate::search::run_in;
@@ -76,5 +77,12 @@ impl Page {
         ensures within { IfSome result (λ r. r.at + r.length ≤ 4096) }
     {
         run_in(self.bytes.as_slice(), start)
+    }
+    /// Whether it holds a byte other than 0.
+    pub fn is_filled(&self) -> bool
+        ensures filled { result ≡ has_filled self.now }
+        ensures whole { length self.now ≡ 4096 }
+    {
+        self.bytes.iter().any(|byte| *byte != 0)
     }
 }

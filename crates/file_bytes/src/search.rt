@@ -78,7 +78,7 @@ fn run_in_page(page: &Page, number: u64, from: u64) -> Option<Run>
 
 impl Pages {
     /// The first page that is there, from a number on.
-    fn page_from(&self, first: u64) -> Option<(u64, &Page)>
+    pub(crate) fn page_from(&self, first: u64) -> Option<(u64, &Page)>
         requires { first ≤ 2 ^ 28 }
         ensures absent { MatchOption result
             ((q : ℕ) → first ≤ q → q < 2 ^ 28 → at self.now.map.entries q ≡ None)

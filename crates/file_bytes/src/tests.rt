@@ -22,6 +22,14 @@ fn cut_and_grown(rt: &HostRuntime) -> Option<Content> {
     Some(content)
 }
 
+// Bytes at both sides of the first page's end, and a zero alone in the third page.
+fn two_filled_of_three(rt: &HostRuntime) -> Option<Content> {
+    let mut content = Content::new(rt.alloc());
+    content.write(rt.alloc(), 4095, b"ab").ok()?;
+    content.write(rt.alloc(), 8192, &[0]).ok()?;
+    Some(content)
+}
+
 // The largest size, with no page.
 fn zeros(rt: &HostRuntime) -> Content {
     Content::zeros(rt.alloc(), 1 << 40)
@@ -69,5 +77,14 @@ fn a_big_file_of_zeros_has_no_run(rt: HostRuntime) -> Result<(), Fail> {
     let content = zeros(&rt);
     assert_eq!(rt; content.next_run(0), None);
     assert_eq!(rt; content.next_run(u64::MAX), None);
+    Ok(())
+}
+
+#[test]
+fn pages_of_zeros_are_not_counted(rt: HostRuntime) -> Result<(), Fail> {
+    let content = two_filled_of_three(&rt).ok_or("memory")?;
+    assert_eq!(rt; Content::new(rt.alloc()).filled_pages(), 0);
+    assert_eq!(rt; zeros(&rt).filled_pages(), 0);
+    assert_eq!(rt; content.filled_pages(), 2);
     Ok(())
 }

@@ -5,9 +5,14 @@ use Rattle.native_kernel.specs.Operations as native
 use Rattle.abi_registers.specs.declared.arguments.Args.{Args}
 use Rattle.abi_registers.specs.Values.{signed, word}
 use Rattle.layout_laws.specs.Abis.{AbiRules}
-use Rattle.served_calls.specs.Calls.{Call, Memory, gives_word}
+use Rattle.served_calls.specs.Calls.{Call, Memory, Served, gives_word, served}
 use Rattle.served_calls.specs.Bytes.{low_word}
-use Rattle.file_calls.specs.Commands.{asked, command_of}
+use Rattle.file_calls.specs.Commands.{asked, command_64_of, command_of}
+use Rattle.file_calls.specs.Locks as locks
+use Rattle.file_calls.specs.declared.commands.Command.{Command}
+use Rattle.file_calls.specs.declared.commands.Command.TheVariants as command
+use Rattle.file_calls.specs.declared.commands.DescriptorCommand.{DescriptorCommand}
+use Rattle.file_calls.specs.declared.commands.LockCommand.TheVariants as commands
 
 -- close(descriptor)
 unfoldable pub close : AbiRules → Args → Memory → Kernel → Call ⊤
@@ -41,10 +46,26 @@ dup3 abi args m k = record {
   keeps = true;
 }
 
--- fcntl(descriptor, command, argument)
-unfoldable pub fcntl : AbiRules → Args → Memory → Kernel → Call ℕ
-fcntl abi args m k = record {
-  operation = asked abi.kind k (signed args 0) (command_of (word args 1)) (word args 2);
+-- a command of fcntl on a descriptor
+unfoldable pub control : DescriptorCommand → AbiRules → Args → Memory → Kernel → Call ℕ
+control c abi args m k = record {
+  operation = asked abi.kind k (signed args 0) c (word args 2);
   deliver = λ answer. gives_word (low_word answer);
   keeps = true;
 }
+
+-- each command; the lock of a command on locks stands at its argument
+unfoldable pub commanded : Command → AbiRules → Args → Memory → Kernel → Served
+commanded (command.Descriptor c) abi args m k = served (control c abi args) m k
+commanded (command.Lock commands.Find) abi args m k = served (locks.find_lock abi args) m k
+commanded (command.Lock commands.Set) abi args m k = served (locks.set_lock abi args) m k
+commanded (command.Lock commands.Find64) abi args m k = served (locks.find_lock_64 abi args) m k
+commanded (command.Lock commands.Set64) abi args m k = served (locks.set_lock_64 abi args) m k
+
+-- fcntl(descriptor, command, argument)
+unfoldable pub fcntl : AbiRules → Args → Memory → Kernel → Served
+fcntl abi args m k = commanded (command_of (word args 1)) abi args m k
+
+-- fcntl64(descriptor, command, argument)
+unfoldable pub fcntl64 : AbiRules → Args → Memory → Kernel → Served
+fcntl64 abi args m k = commanded (command_64_of (word args 1)) abi args m k

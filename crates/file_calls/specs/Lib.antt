@@ -1,5 +1,11 @@
+pub mod Choice
 pub mod Commands
 pub mod Descriptors
+pub mod Locks
+pub mod Listings
 pub mod Names
 pub mod Paths
+pub mod Status
 pub mod Transfers
+pub mod Lengths
+pub mod Retiming

@@ -2,7 +2,7 @@
 
 ghost use Rattle.std.specs.Prelude.{◌≡◌};
 ghost use Rattle.kernel_values.specs.Outcome.{Gives, GivesAlways};
-ghost use Rattle.file_calls.specs.Commands.{asked, command_of};
+ghost use Rattle.file_calls.specs.Commands.{asked, command_64_of, command_of, descriptor_command};
 
 use kernel_values::{AbiKind, Answer, Errno, KernelFault, OpenFlags};
 use native_kernel::Kernel;
@@ -10,6 +10,28 @@ use native_kernel::Kernel;
 /// A command, by `include/uapi/asm-generic/fcntl.h` and `include/uapi/linux/fcntl.h`.
 #[derive(Clone, Copy, Debug, PartialEq, Eq)]
 pub enum Command {
+    /// One on a descriptor and its open file.
+    Descriptor(DescriptorCommand),
+    /// One on locks of the file.
+    Lock(LockCommand),
+}
+
+/// A command on locks of a file. One that would wait is the same as the one that doesn't.
+#[derive(Clone, Copy, Debug, PartialEq, Eq)]
+pub enum LockCommand {
+    /// `F_GETLK`
+    Find,
+    /// `F_SETLK` and `F_SETLKW`
+    Set,
+    /// `F_GETLK64`
+    Find64,
+    /// `F_SETLK64` and `F_SETLKW64`
+    Set64,
+}
+
+/// A command on a descriptor and its open file.
+#[derive(Clone, Copy, Debug, PartialEq, Eq)]
+pub enum DescriptorCommand {
     /// `F_DUPFD`
     Duplicate,
     /// `F_GETFD`
@@ -26,25 +48,48 @@ pub enum Command {
     Other,
 }
 
-/// The command of a number.
+/// The command on a descriptor of a number.
+fn descriptor_command(number: u32) -> DescriptorCommand
+    ensures { result ≡ descriptor_command number }
+{
+    match number {
+        0 => DescriptorCommand::Duplicate,
+        1 => DescriptorCommand::DescriptorFlags,
+        2 => DescriptorCommand::SetDescriptorFlags,
+        3 => DescriptorCommand::OpenFlags,
+        4 => DescriptorCommand::SetOpenFlags,
+        1030 => DescriptorCommand::DuplicateCloseOnExec,
+        _ => DescriptorCommand::Other,
+    }
+}
+
+/// The command of fcntl of a number.
 #[tactic(auto, unfolding(crate::specs::Commands::command_of))]
 pub fn command_of(number: u32) -> Command
     ensures { result ≡ command_of number }
 {
     match number {
-        0 => Command::Duplicate,
-        1 => Command::DescriptorFlags,
-        2 => Command::SetDescriptorFlags,
-        3 => Command::OpenFlags,
-        4 => Command::SetOpenFlags,
-        1030 => Command::DuplicateCloseOnExec,
-        _ => Command::Other,
+        5 => Command::Lock(LockCommand::Find),
+        6 | 7 => Command::Lock(LockCommand::Set),
+        _ => Command::Descriptor(descriptor_command(number)),
+    }
+}
+
+/// The command of fcntl64 of a number.
+#[tactic(auto, unfolding(crate::specs::Commands::command_64_of))]
+pub fn command_64_of(number: u32) -> Command
+    ensures { result ≡ command_64_of number }
+{
+    match number {
+        12 => Command::Lock(LockCommand::Find64),
+        13 | 14 => Command::Lock(LockCommand::Set64),
+        _ => command_of(number),
     }
 }
 
 #[tactic(auto, unfolding(crate::specs::Commands::asked))]
 fn descriptor_flags(kind: AbiKind, kernel: &mut Kernel, fd: i64, argument: u32) -> Answer<u64>
-    ensures { Gives (λ n. n) result kernel.new (asked kind kernel.old fd Command.DescriptorFlags argument) }
+    ensures { Gives (λ n. n) result kernel.new (asked kind kernel.old fd DescriptorCommand.DescriptorFlags argument) }
 {
     let flags = kernel.fd_flags(fd)?;
     Ok(u64::from(flags))
@@ -52,7 +97,7 @@ fn descriptor_flags(kind: AbiKind, kernel: &mut Kernel, fd: i64, argument: u32) 
 
 #[tactic(auto, unfolding(crate::specs::Commands::asked))]
 fn set_descriptor_flags(kind: AbiKind, kernel: &mut Kernel, fd: i64, argument: u32) -> Answer<u64>
-    ensures { Gives (λ n. n) result kernel.new (asked kind kernel.old fd Command.SetDescriptorFlags argument) }
+    ensures { Gives (λ n. n) result kernel.new (asked kind kernel.old fd DescriptorCommand.SetDescriptorFlags argument) }
 {
     kernel.set_fd_flags(fd, argument)?;
     Ok(0)
@@ -60,7 +105,7 @@ fn set_descriptor_flags(kind: AbiKind, kernel: &mut Kernel, fd: i64, argument: u
 
 #[tactic(auto, unfolding(crate::specs::Commands::asked))]
 fn open_flags(kind: AbiKind, kernel: &mut Kernel, fd: i64, argument: u32) -> Answer<u64>
-    ensures { Gives (λ n. n) result kernel.new (asked kind kernel.old fd Command.OpenFlags argument) }
+    ensures { Gives (λ n. n) result kernel.new (asked kind kernel.old fd DescriptorCommand.OpenFlags argument) }
 {
     let flags = kernel.open_flags(fd)?;
     Ok(u64::from(flags.to_word(kind)))
@@ -68,7 +113,7 @@ fn open_flags(kind: AbiKind, kernel: &mut Kernel, fd: i64, argument: u32) -> Ans
 
 #[tactic(auto, unfolding(crate::specs::Commands::asked))]
 fn set_open_flags(kind: AbiKind, kernel: &mut Kernel, fd: i64, argument: u32) -> Answer<u64>
-    ensures { Gives (λ n. n) result kernel.new (asked kind kernel.old fd Command.SetOpenFlags argument) }
+    ensures { Gives (λ n. n) result kernel.new (asked kind kernel.old fd DescriptorCommand.SetOpenFlags argument) }
 {
     kernel.set_open_flags(fd, OpenFlags::from_word(kind, argument))?;
     Ok(0)
@@ -76,7 +121,7 @@ fn set_open_flags(kind: AbiKind, kernel: &mut Kernel, fd: i64, argument: u32) ->
 
 #[tactic(auto, unfolding(crate::specs::Commands::asked))]
 fn refused(kind: AbiKind, kernel: &mut Kernel, fd: i64, argument: u32) -> Answer<u64>
-    ensures { Gives (λ n. n) result kernel.new (asked kind kernel.old fd Command.Other argument) }
+    ensures { Gives (λ n. n) result kernel.new (asked kind kernel.old fd DescriptorCommand.Other argument) }
 {
     if kernel.can_use(fd, false, false) {
         return Err(KernelFault::Errno(Errno::InvalidArgument));
@@ -90,18 +135,18 @@ pub fn ask(
     kind: AbiKind,
     kernel: &mut Kernel,
     fd: i64,
-    command: Command,
+    command: DescriptorCommand,
     argument: u32,
 ) -> Answer<u64>
     ensures { Gives (λ n. n) result kernel.new (asked kind kernel.old fd command argument) }
 {
     match command {
-        Command::Duplicate => kernel.duplicate(fd, i64::from(argument), false),
-        Command::DescriptorFlags => descriptor_flags(kind, kernel, fd, argument),
-        Command::SetDescriptorFlags => set_descriptor_flags(kind, kernel, fd, argument),
-        Command::OpenFlags => open_flags(kind, kernel, fd, argument),
-        Command::SetOpenFlags => set_open_flags(kind, kernel, fd, argument),
-        Command::DuplicateCloseOnExec => kernel.duplicate(fd, i64::from(argument), true),
-        Command::Other => refused(kind, kernel, fd, argument),
+        DescriptorCommand::Duplicate => kernel.duplicate(fd, i64::from(argument), false),
+        DescriptorCommand::DescriptorFlags => descriptor_flags(kind, kernel, fd, argument),
+        DescriptorCommand::SetDescriptorFlags => set_descriptor_flags(kind, kernel, fd, argument),
+        DescriptorCommand::OpenFlags => open_flags(kind, kernel, fd, argument),
+        DescriptorCommand::SetOpenFlags => set_open_flags(kind, kernel, fd, argument),
+        DescriptorCommand::DuplicateCloseOnExec => kernel.duplicate(fd, i64::from(argument), true),
+        DescriptorCommand::Other => refused(kind, kernel, fd, argument),
     }
 }

@@ -2,14 +2,16 @@
 
 ghost use Rattle.layout_laws.specs.Abis.{rules};
 ghost use Rattle.served_calls.specs.Calls.{Serves, ServesAlways, served};
-ghost use Rattle.file_calls.specs.Descriptors.{close, dup, dup2, dup3, fcntl};
+ghost use Rattle.file_calls.specs.Descriptors.{close, commanded, control, dup, dup2, dup3, fcntl, fcntl64};
 
-use crate::commands::{ask, command_of};
+use crate::commands::{Command, DescriptorCommand, LockCommand, ask, command_64_of, command_of};
+use crate::locks;
 use abi_registers::Args;
 use kernel_values::Answer;
 use layout_laws::Compat;
 use native_kernel::Kernel;
 use served_calls::low_word;
+use std::alloc::Global;
 use user_memory::UserMemory;
 
 /// close(descriptor)
@@ -48,12 +50,62 @@ pub fn dup3<A: Compat>(memory: &mut UserMemory, kernel: &mut Kernel, args: &Args
     Ok(low_word(fd))
 }
 
-/// fcntl(descriptor, command, argument), and fcntl64, which has no further command without locks
-#[tactic(auto, unfolding(crate::specs::Descriptors::fcntl))]
-pub fn fcntl<A: Compat>(memory: &mut UserMemory, kernel: &mut Kernel, args: &Args) -> Answer<u32>
-    ensures { Serves result memory.new kernel.new (served (fcntl (rules A.KIND A.ALIGN64) args.now) memory.old kernel.old) }
+/// A command of fcntl on a descriptor.
+#[tactic(auto, unfolding(crate::specs::Descriptors::control))]
+fn control<A: Compat>(
+    memory: &mut UserMemory,
+    kernel: &mut Kernel,
+    command: DescriptorCommand,
+    args: &Args,
+) -> Answer<u32>
+    ensures { Serves result memory.new kernel.new (served (control command (rules A.KIND A.ALIGN64) args.now) memory.old kernel.old) }
 {
-    let command = command_of(args.word(1));
     let answer = ask(A::KIND, kernel, args.signed(0), command, args.word(2))?;
     Ok(low_word(answer))
+}
+
+/// A command of fcntl or fcntl64.
+#[tactic(auto, unfolding(crate::specs::Descriptors::commanded))]
+fn command<A: Compat>(
+    alloc: Global,
+    memory: &mut UserMemory,
+    kernel: &mut Kernel,
+    command: Command,
+    args: &Args,
+) -> Answer<u32>
+    ensures { Serves result memory.new kernel.new (commanded command (rules A.KIND A.ALIGN64) args.now memory.old kernel.old) }
+{
+    match command {
+        Command::Descriptor(command) => control::<A>(memory, kernel, command, args),
+        Command::Lock(LockCommand::Find) => locks::find_lock::<A>(memory, kernel, args),
+        Command::Lock(LockCommand::Set) => locks::set_lock::<A>(alloc, memory, kernel, args),
+        Command::Lock(LockCommand::Find64) => locks::find_lock_64::<A>(memory, kernel, args),
+        Command::Lock(LockCommand::Set64) => locks::set_lock_64::<A>(alloc, memory, kernel, args),
+    }
+}
+
+/// fcntl(descriptor, command, argument)
+#[tactic(auto, unfolding(crate::specs::Descriptors::fcntl))]
+pub fn fcntl<A: Compat>(
+    alloc: Global,
+    memory: &mut UserMemory,
+    kernel: &mut Kernel,
+    args: &Args,
+) -> Answer<u32>
+    ensures { Serves result memory.new kernel.new (fcntl (rules A.KIND A.ALIGN64) args.now memory.old kernel.old) }
+{
+    command::<A>(alloc, memory, kernel, command_of(args.word(1)), args)
+}
+
+/// fcntl64(descriptor, command, argument)
+#[tactic(auto, unfolding(crate::specs::Descriptors::fcntl64))]
+pub fn fcntl64<A: Compat>(
+    alloc: Global,
+    memory: &mut UserMemory,
+    kernel: &mut Kernel,
+    args: &Args,
+) -> Answer<u32>
+    ensures { Serves result memory.new kernel.new (fcntl64 (rules A.KIND A.ALIGN64) args.now memory.old kernel.old) }
+{
+    command::<A>(alloc, memory, kernel, command_64_of(args.word(1)), args)
 }

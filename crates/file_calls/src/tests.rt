@@ -1,11 +1,12 @@
 //! Each call on a small tree, with its refusals. A helper says nothing of what it gives: so the proof of a test knows
 //! nothing of the state, however large that is.
 
-use crate::descriptors::{close, dup, dup2, dup3, fcntl};
-use crate::names::{mkdir, mkdirat, rename, rmdir, unlink, unlinkat};
-use crate::paths::{chdir, getcwd, open_path, open_path_at};
-use crate::transfers::{llseek, lseek, pread64, pwrite64, read, write};
+use crate::serve_file;
 use abi_registers::Args;
+use call_tables::{
+    DescriptorOperation, FileOperation, LengthOperation, NameOperation, PathOperation,
+    StatusOperation, TransferOperation,
+};
 use kernel_values::{Answer, KernelFault, Usage};
 use layout_laws::{ArmEabi, Compat, Ia32};
 use native_kernel::{Identity, Kernel};
@@ -42,6 +43,8 @@ const ERANGE: i64 = -34;
 
 const ENAMETOOLONG: i64 = -36;
 
+const EFBIG: i64 = -27;
+
 const EOVERFLOW: i64 = -75;
 
 /// The paths `/f`, `/d`, `/big` and `g`, each at a place of 16 bytes from 0x1000 on.
@@ -52,30 +55,73 @@ const PATHS: [(u32, &[u8]); 4] = [
     (0x1030, b"g"),
 ];
 
-#[derive(Clone, Copy, Debug)]
-enum Row {
-    Open,
-    OpenAt,
-    Chdir,
-    Getcwd,
-    Read,
-    Pread64,
-    Write,
-    Pwrite64,
-    Lseek,
-    Llseek,
-    Close,
-    Dup,
-    Dup2,
-    Dup3,
-    Fcntl,
-    Mkdir,
-    Mkdirat,
-    Rmdir,
-    Unlink,
-    Unlinkat,
-    Rename,
-}
+const OPEN: FileOperation = FileOperation::Path(PathOperation::Open);
+
+const OPENAT: FileOperation = FileOperation::Path(PathOperation::Openat);
+
+const CHDIR: FileOperation = FileOperation::Path(PathOperation::Chdir);
+
+const GETCWD: FileOperation = FileOperation::Path(PathOperation::Getcwd);
+
+const READ: FileOperation = FileOperation::Transfer(TransferOperation::Read);
+
+const PREAD64: FileOperation = FileOperation::Transfer(TransferOperation::Pread64);
+
+const WRITE: FileOperation = FileOperation::Transfer(TransferOperation::Write);
+
+const PWRITE64: FileOperation = FileOperation::Transfer(TransferOperation::Pwrite64);
+
+const LSEEK: FileOperation = FileOperation::Transfer(TransferOperation::Lseek);
+
+const LLSEEK: FileOperation = FileOperation::Transfer(TransferOperation::Llseek);
+
+const GETDENTS: FileOperation = FileOperation::Transfer(TransferOperation::Getdents);
+
+const GETDENTS64: FileOperation = FileOperation::Transfer(TransferOperation::Getdents64);
+
+const CLOSE: FileOperation = FileOperation::Descriptor(DescriptorOperation::Close);
+
+const DUP: FileOperation = FileOperation::Descriptor(DescriptorOperation::Dup);
+
+const DUP2: FileOperation = FileOperation::Descriptor(DescriptorOperation::Dup2);
+
+const DUP3: FileOperation = FileOperation::Descriptor(DescriptorOperation::Dup3);
+
+const FCNTL: FileOperation = FileOperation::Descriptor(DescriptorOperation::Fcntl);
+
+const FCNTL64: FileOperation = FileOperation::Descriptor(DescriptorOperation::Fcntl64);
+
+const MKDIR: FileOperation = FileOperation::Name(NameOperation::Mkdir);
+
+const MKDIRAT: FileOperation = FileOperation::Name(NameOperation::Mkdirat);
+
+const RMDIR: FileOperation = FileOperation::Name(NameOperation::Rmdir);
+
+const UNLINK: FileOperation = FileOperation::Name(NameOperation::Unlink);
+
+const UNLINKAT: FileOperation = FileOperation::Name(NameOperation::Unlinkat);
+
+const RENAME: FileOperation = FileOperation::Name(NameOperation::Rename);
+
+const STAT: FileOperation = FileOperation::Status(StatusOperation::Stat);
+
+const FSTAT: FileOperation = FileOperation::Status(StatusOperation::Fstat);
+
+const STAT64: FileOperation = FileOperation::Status(StatusOperation::Stat64);
+
+const FSTAT64: FileOperation = FileOperation::Status(StatusOperation::Fstat64);
+
+const FSTATAT64: FileOperation = FileOperation::Status(StatusOperation::Fstatat64);
+
+const UTIMENSAT: FileOperation = FileOperation::Status(StatusOperation::Utimensat);
+
+const TRUNCATE: FileOperation = FileOperation::Length(LengthOperation::Truncate);
+
+const TRUNCATE64: FileOperation = FileOperation::Length(LengthOperation::Truncate64);
+
+const FTRUNCATE: FileOperation = FileOperation::Length(LengthOperation::Ftruncate);
+
+const FALLOCATE: FileOperation = FileOperation::Length(LengthOperation::Fallocate);
 
 #[derive(Drop)]
 struct World {
@@ -112,74 +158,34 @@ fn start(alloc: Global) -> Option<World> {
     Some(World { memory, kernel })
 }
 
+/// `/d`, inode 5, has a file `a`, inode 7, and `b`, whose inode takes more than 32 bits.
+fn start_listing(alloc: Global) -> Option<World> {
+    let mut world = start(alloc)?;
+    world.kernel = Kernel::new(alloc, &OWNER).ok()?;
+    world.kernel.image_directory(alloc, b"/d", 5).ok()?;
+    world.kernel.image_file(alloc, b"/d/a", 7, 0).ok()?;
+    world
+        .kernel
+        .image_file(alloc, b"/d/b", 0x1_0000_0000, 0)
+        .ok()?;
+    Some(world)
+}
+
 /// No byte of 4,096 from 0x1800 on is zero.
 fn fill(world: &mut World) {
     let _ = world.memory.copy_out(0x1800, &[47; 4096]);
 }
 
-fn path_call<A: Compat>(alloc: Global, world: &mut World, row: Row, args: &Args) -> Answer<u32> {
-    let World { memory, kernel } = world;
-    match row {
-        Row::Open => open_path::<A>(alloc, memory, kernel, args),
-        Row::OpenAt => open_path_at::<A>(alloc, memory, kernel, args),
-        Row::Chdir => chdir::<A>(memory, kernel, args),
-        _ => getcwd::<A>(alloc, memory, kernel, args),
-    }
-}
-
-fn transfer<A: Compat>(alloc: Global, world: &mut World, row: Row, args: &Args) -> Answer<u32> {
-    let World { memory, kernel } = world;
-    match row {
-        Row::Read => read::<A>(alloc, memory, kernel, args),
-        Row::Pread64 => pread64::<A>(alloc, memory, kernel, args),
-        Row::Write => write::<A>(alloc, memory, kernel, args),
-        Row::Pwrite64 => pwrite64::<A>(alloc, memory, kernel, args),
-        Row::Lseek => lseek::<A>(memory, kernel, args),
-        _ => llseek::<A>(memory, kernel, args),
-    }
-}
-
-fn descriptor_call<A: Compat>(world: &mut World, row: Row, args: &Args) -> Answer<u32> {
-    let World { memory, kernel } = world;
-    match row {
-        Row::Close => close::<A>(memory, kernel, args),
-        Row::Dup => dup::<A>(memory, kernel, args),
-        Row::Dup2 => dup2::<A>(memory, kernel, args),
-        Row::Dup3 => dup3::<A>(memory, kernel, args),
-        _ => fcntl::<A>(memory, kernel, args),
-    }
-}
-
-fn name_call<A: Compat>(alloc: Global, world: &mut World, row: Row, args: &Args) -> Answer<u32> {
-    let World { memory, kernel } = world;
-    match row {
-        Row::Mkdir => mkdir::<A>(alloc, memory, kernel, args),
-        Row::Mkdirat => mkdirat::<A>(alloc, memory, kernel, args),
-        Row::Rmdir => rmdir::<A>(memory, kernel, args),
-        Row::Unlink => unlink::<A>(memory, kernel, args),
-        Row::Unlinkat => unlinkat::<A>(memory, kernel, args),
-        _ => rename::<A>(alloc, memory, kernel, args),
-    }
-}
-
-fn served<A: Compat>(alloc: Global, world: &mut World, row: Row, args: &Args) -> Answer<u32> {
-    match row {
-        Row::Open | Row::OpenAt | Row::Chdir | Row::Getcwd => {
-            path_call::<A>(alloc, world, row, args)
-        }
-        Row::Close | Row::Dup | Row::Dup2 | Row::Dup3 | Row::Fcntl => {
-            descriptor_call::<A>(world, row, args)
-        }
-        Row::Mkdir | Row::Mkdirat | Row::Rmdir | Row::Unlink | Row::Unlinkat | Row::Rename =>
-            name_call::<A>(alloc, world, row, args),
-        _ => transfer::<A>(alloc, world, row, args),
-    }
-}
-
 /// The result of a call, or its errno's number below zero.
-fn answer<A: Compat>(alloc: Global, world: &mut World, row: Row, values: [i64; 6]) -> i64 {
+fn answer<A: Compat>(
+    alloc: Global,
+    world: &mut World,
+    operation: FileOperation,
+    values: [i64; 6],
+) -> i64 {
     let args = Args { values, count: 6 };
-    match served::<A>(alloc, world, row, &args) {
+    let World { memory, kernel } = world;
+    match serve_file::<A>(alloc, memory, kernel, operation, &args) {
         Ok(word) => i64::from(word),
         Err(KernelFault::Errno(errno)) => -i64::from(errno.number()),
         Err(KernelFault::OutOfMemory) => i64::MIN,
@@ -191,14 +197,14 @@ fn are_served<A: Compat>(
     rt: &impl Abort,
     alloc: Global,
     world: &mut World,
-    calls: &[(Row, [i64; 4], i64)],
+    calls: &[(FileOperation, [i64; 4], i64)],
 ) {
-    for (row, values, result) in calls {
+    for (operation, values, result) in calls {
         let all = [values[0], values[1], values[2], values[3], 0, 0];
         assert_eq!(rt;
-            answer::<A>(alloc, world, *row, all),
+            answer::<A>(alloc, world, *operation, all),
             *result,
-            "{row:?} {values:?}"
+            "{operation:?} {values:?}"
         );
     }
 }
@@ -218,18 +224,18 @@ fn are_stored(rt: &impl Abort, world: &World, at: u32, stored: &[u8; 8]) {
 fn paths_are_opened(rt: HostRuntime) -> Result<(), Fail> {
     let mut world = start(rt.alloc()).ok_or("memory")?;
     let calls = [
-        (Row::Open, [0x1000, 2, 0, 0], 0),
-        (Row::Open, [0x1020, 0, 0, 0], EOVERFLOW),
-        (Row::OpenAt, [-100, 0x1020, 0x8000, 0], 1),
-        (Row::Open, [0x1030, 0, 0, 0], ENOENT),
-        (Row::Open, [0x1010, 0x10000, 0, 0], 2),
-        (Row::OpenAt, [2, 0x1030, 0x42, 0o644], 3),
-        (Row::OpenAt, [0, 0x1030, 0, 0], ENOTDIR),
-        (Row::OpenAt, [9, 0x1030, 0, 0], EBADF),
-        (Row::Getcwd, [0x2000, 16, 0, 0], 2),
-        (Row::Chdir, [0x1010, 0, 0, 0], 0),
-        (Row::Open, [0x1030, 0, 0, 0], 4),
-        (Row::Getcwd, [0x2010, 3, 0, 0], 3),
+        (OPEN, [0x1000, 2, 0, 0], 0),
+        (OPEN, [0x1020, 0, 0, 0], EOVERFLOW),
+        (OPENAT, [-100, 0x1020, 0x8000, 0], 1),
+        (OPEN, [0x1030, 0, 0, 0], ENOENT),
+        (OPEN, [0x1010, 0x10000, 0, 0], 2),
+        (OPENAT, [2, 0x1030, 0x42, 0o644], 3),
+        (OPENAT, [0, 0x1030, 0, 0], ENOTDIR),
+        (OPENAT, [9, 0x1030, 0, 0], EBADF),
+        (GETCWD, [0x2000, 16, 0, 0], 2),
+        (CHDIR, [0x1010, 0, 0, 0], 0),
+        (OPEN, [0x1030, 0, 0, 0], 4),
+        (GETCWD, [0x2010, 3, 0, 0], 3),
     ];
     are_served::<Ia32>(&rt, rt.alloc(), &mut world, &calls);
     are_stored(&rt, &world, 0x2000, b"/\0\0\0\0\0\0\0");
@@ -242,15 +248,15 @@ fn paths_are_refused(rt: HostRuntime) -> Result<(), Fail> {
     let mut world = start(rt.alloc()).ok_or("memory")?;
     fill(&mut world);
     let calls = [
-        (Row::Open, [0x5000, 0, 0, 0], EFAULT),
-        (Row::Open, [0x1800, 0, 0, 0], ENAMETOOLONG),
-        (Row::OpenAt, [9, 0x5000, 0, 0], EFAULT),
-        (Row::OpenAt, [9, 0x1800, 0, 0], ENAMETOOLONG),
-        (Row::Chdir, [0x5000, 0, 0, 0], EFAULT),
-        (Row::Chdir, [0x1000, 0, 0, 0], ENOTDIR),
-        (Row::Getcwd, [0x2ff0, 1, 0, 0], ERANGE),
-        (Row::Getcwd, [0x2fff, 16, 0, 0], EFAULT),
-        (Row::Getcwd, [0x3000, 16, 0, 0], EFAULT),
+        (OPEN, [0x5000, 0, 0, 0], EFAULT),
+        (OPEN, [0x1800, 0, 0, 0], ENAMETOOLONG),
+        (OPENAT, [9, 0x5000, 0, 0], EFAULT),
+        (OPENAT, [9, 0x1800, 0, 0], ENAMETOOLONG),
+        (CHDIR, [0x5000, 0, 0, 0], EFAULT),
+        (CHDIR, [0x1000, 0, 0, 0], ENOTDIR),
+        (GETCWD, [0x2ff0, 1, 0, 0], ERANGE),
+        (GETCWD, [0x2fff, 16, 0, 0], EFAULT),
+        (GETCWD, [0x3000, 16, 0, 0], EFAULT),
     ];
     are_served::<Ia32>(&rt, rt.alloc(), &mut world, &calls);
     are_stored(&rt, &world, 0x2ff8, &[0; 8]);
@@ -261,18 +267,18 @@ fn paths_are_refused(rt: HostRuntime) -> Result<(), Fail> {
 fn bytes_are_moved(rt: HostRuntime) -> Result<(), Fail> {
     let mut world = start(rt.alloc()).ok_or("memory")?;
     let calls = [
-        (Row::Open, [0x1000, 2, 0, 0], 0),
-        (Row::Read, [0, 0x3000, 5, 0], EFAULT),
-        (Row::Read, [0, 0x2fff, 5, 0], 1),
-        (Row::Read, [0, 0x2000, 0xffff_ffff, 0], 4),
-        (Row::Read, [0, 0x3000, 5, 0], 0),
-        (Row::Pread64, [0, 0x2010, 2, 1], 2),
-        (Row::Pread64, [0, 0x2010, 2, -1], EINVAL),
-        (Row::Write, [0, 0x1000, 2, 0], 2),
-        (Row::Write, [0, 0x5000, 2, 0], EFAULT),
-        (Row::Pwrite64, [0, 0x1010, 2, 1], 2),
-        (Row::Pread64, [0, 0x2020, 8, 0], 7),
-        (Row::Read, [9, 0x2000, 5, 0], EBADF),
+        (OPEN, [0x1000, 2, 0, 0], 0),
+        (READ, [0, 0x3000, 5, 0], EFAULT),
+        (READ, [0, 0x2fff, 5, 0], 1),
+        (READ, [0, 0x2000, 0xffff_ffff, 0], 4),
+        (READ, [0, 0x3000, 5, 0], 0),
+        (PREAD64, [0, 0x2010, 2, 1], 2),
+        (PREAD64, [0, 0x2010, 2, -1], EINVAL),
+        (WRITE, [0, 0x1000, 2, 0], 2),
+        (WRITE, [0, 0x5000, 2, 0], EFAULT),
+        (PWRITE64, [0, 0x1010, 2, 1], 2),
+        (PREAD64, [0, 0x2020, 8, 0], 7),
+        (READ, [9, 0x2000, 5, 0], EBADF),
     ];
     are_served::<Ia32>(&rt, rt.alloc(), &mut world, &calls);
     are_stored(&rt, &world, 0x2000, b"ello\0\0\0\0");
@@ -286,17 +292,17 @@ fn bytes_are_moved(rt: HostRuntime) -> Result<(), Fail> {
 fn positions_stand_where_they_cannot_be_told(rt: HostRuntime) -> Result<(), Fail> {
     let mut world = start(rt.alloc()).ok_or("memory")?;
     let calls = [
-        (Row::Open, [0x1020, 0x8000, 0, 0], 0),
-        (Row::Lseek, [0, 0x7fff_ffff, 0, 0], 0x7fff_ffff),
-        (Row::Lseek, [0, 1, 1, 0], EOVERFLOW),
-        (Row::Read, [0, 0x2000, 5, 0], 1),
-        (Row::Lseek, [0, -1, 1, 0], EOVERFLOW),
-        (Row::Read, [0, 0x2001, 5, 0], 1),
-        (Row::Lseek, [0, 0, 3, 0], EINVAL),
-        (Row::Llseek, [0, 1, 0, 0x3000], EFAULT),
-        (Row::Lseek, [0, -0x8000_0000, 1, 0], EOVERFLOW),
-        (Row::Read, [0, 0x2002, 5, 0], 1),
-        (Row::Llseek, [0, 1, 5, 0x2010], 0),
+        (OPEN, [0x1020, 0x8000, 0, 0], 0),
+        (LSEEK, [0, 0x7fff_ffff, 0, 0], 0x7fff_ffff),
+        (LSEEK, [0, 1, 1, 0], EOVERFLOW),
+        (READ, [0, 0x2000, 5, 0], 1),
+        (LSEEK, [0, -1, 1, 0], EOVERFLOW),
+        (READ, [0, 0x2001, 5, 0], 1),
+        (LSEEK, [0, 0, 3, 0], EINVAL),
+        (LLSEEK, [0, 1, 0, 0x3000], EFAULT),
+        (LSEEK, [0, -0x8000_0000, 1, 0], EOVERFLOW),
+        (READ, [0, 0x2002, 5, 0], 1),
+        (LLSEEK, [0, 1, 5, 0x2010], 0),
     ];
     are_served::<Ia32>(&rt, rt.alloc(), &mut world, &calls);
     are_stored(&rt, &world, 0x2000, b"AAA\0\0\0\0\0");
@@ -308,19 +314,19 @@ fn positions_stand_where_they_cannot_be_told(rt: HostRuntime) -> Result<(), Fail
 fn descriptors_are_copied(rt: HostRuntime) -> Result<(), Fail> {
     let mut world = start(rt.alloc()).ok_or("memory")?;
     let calls = [
-        (Row::Open, [0x1000, 2, 0, 0], 0),
-        (Row::Dup, [0, 0, 0, 0], 1),
-        (Row::Dup, [9, 0, 0, 0], EBADF),
-        (Row::Dup2, [0, 5, 0, 0], 5),
-        (Row::Dup2, [5, 5, 0, 0], 5),
-        (Row::Dup2, [0, 1_024, 0, 0], EBADF),
-        (Row::Dup3, [0, 6, 0x80000, 0], 6),
-        (Row::Dup3, [0, 0, 0, 0], EINVAL),
-        (Row::Dup3, [0, 7, 1, 0], EINVAL),
-        (Row::Close, [1, 0, 0, 0], 0),
-        (Row::Close, [1, 0, 0, 0], EBADF),
-        (Row::Fcntl, [6, 1, 0, 0], 1),
-        (Row::Fcntl, [5, 1, 0, 0], 0),
+        (OPEN, [0x1000, 2, 0, 0], 0),
+        (DUP, [0, 0, 0, 0], 1),
+        (DUP, [9, 0, 0, 0], EBADF),
+        (DUP2, [0, 5, 0, 0], 5),
+        (DUP2, [5, 5, 0, 0], 5),
+        (DUP2, [0, 1_024, 0, 0], EBADF),
+        (DUP3, [0, 6, 0x80000, 0], 6),
+        (DUP3, [0, 0, 0, 0], EINVAL),
+        (DUP3, [0, 7, 1, 0], EINVAL),
+        (CLOSE, [1, 0, 0, 0], 0),
+        (CLOSE, [1, 0, 0, 0], EBADF),
+        (FCNTL, [6, 1, 0, 0], 1),
+        (FCNTL, [5, 1, 0, 0], 0),
     ];
     are_served::<Ia32>(&rt, rt.alloc(), &mut world, &calls);
     Ok(())
@@ -330,18 +336,18 @@ fn descriptors_are_copied(rt: HostRuntime) -> Result<(), Fail> {
 fn commands_are_served_on_arm(rt: HostRuntime) -> Result<(), Fail> {
     let mut world = start(rt.alloc()).ok_or("memory")?;
     let calls = [
-        (Row::Open, [0x1000, 0x20002, 0, 0], 0),
-        (Row::Fcntl, [0, 0, 3, 0], 3),
-        (Row::Fcntl, [0, 1_030, 3, 0], 4),
-        (Row::Fcntl, [0, 0, 1_024, 0], EINVAL),
-        (Row::Fcntl, [4, 1, 0, 0], 1),
-        (Row::Fcntl, [4, 2, 0, 0], 0),
-        (Row::Fcntl, [4, 1, 0, 0], 0),
-        (Row::Fcntl, [0, 3, 0, 0], 0x20002),
-        (Row::Fcntl, [0, 4, 0x400, 0], 0),
-        (Row::Fcntl, [3, 3, 0, 0], 0x20402),
-        (Row::Fcntl, [0, 1_031, 0, 0], EINVAL),
-        (Row::Fcntl, [9, 1_031, 0, 0], EBADF),
+        (OPEN, [0x1000, 0x20002, 0, 0], 0),
+        (FCNTL, [0, 0, 3, 0], 3),
+        (FCNTL, [0, 1_030, 3, 0], 4),
+        (FCNTL, [0, 0, 1_024, 0], EINVAL),
+        (FCNTL, [4, 1, 0, 0], 1),
+        (FCNTL, [4, 2, 0, 0], 0),
+        (FCNTL, [4, 1, 0, 0], 0),
+        (FCNTL, [0, 3, 0, 0], 0x20002),
+        (FCNTL, [0, 4, 0x400, 0], 0),
+        (FCNTL, [3, 3, 0, 0], 0x20402),
+        (FCNTL, [0, 1_031, 0, 0], EINVAL),
+        (FCNTL, [9, 1_031, 0, 0], EBADF),
     ];
     are_served::<ArmEabi>(&rt, rt.alloc(), &mut world, &calls);
     Ok(())
@@ -351,18 +357,111 @@ fn commands_are_served_on_arm(rt: HostRuntime) -> Result<(), Fail> {
 fn names_are_made_moved_and_removed(rt: HostRuntime) -> Result<(), Fail> {
     let mut world = start(rt.alloc()).ok_or("memory")?;
     let calls = [
-        (Row::Mkdir, [0x1030, 0o755, 0, 0], 0),
-        (Row::Mkdir, [0x1030, 0o755, 0, 0], EEXIST),
-        (Row::Unlink, [0x1030, 0, 0, 0], EISDIR),
-        (Row::Rmdir, [0x1030, 0, 0, 0], 0),
-        (Row::Mkdirat, [-100, 0x1030, 0, 0], 0),
-        (Row::Unlinkat, [-100, 0x1030, 0x200, 0], 0),
-        (Row::Rename, [0x1000, 0x1030, 0, 0], 0),
-        (Row::Unlinkat, [-100, 0x1030, 1, 0], EINVAL),
-        (Row::Unlink, [0x1030, 0, 0, 0], 0),
-        (Row::Unlink, [0x1000, 0, 0, 0], ENOENT),
-        (Row::Rename, [0x5000, 0x1030, 0, 0], EFAULT),
+        (MKDIR, [0x1030, 0o755, 0, 0], 0),
+        (MKDIR, [0x1030, 0o755, 0, 0], EEXIST),
+        (UNLINK, [0x1030, 0, 0, 0], EISDIR),
+        (RMDIR, [0x1030, 0, 0, 0], 0),
+        (MKDIRAT, [-100, 0x1030, 0, 0], 0),
+        (UNLINKAT, [-100, 0x1030, 0x200, 0], 0),
+        (RENAME, [0x1000, 0x1030, 0, 0], 0),
+        (UNLINKAT, [-100, 0x1030, 1, 0], EINVAL),
+        (UNLINK, [0x1030, 0, 0, 0], 0),
+        (UNLINK, [0x1000, 0, 0, 0], ENOENT),
+        (RENAME, [0x5000, 0x1030, 0, 0], EFAULT),
     ];
     are_served::<Ia32>(&rt, rt.alloc(), &mut world, &calls);
+    Ok(())
+}
+
+#[test]
+fn a_directory_is_listed(rt: HostRuntime) -> Result<(), Fail> {
+    let mut world = start_listing(rt.alloc()).ok_or("memory")?;
+    let calls = [
+        (OPEN, [0x1010, 0x10000, 0, 0], 0),
+        (GETDENTS, [0, 0x2000, 0xc, 0], EINVAL),
+        (GETDENTS, [0, 0x3000, 0x30, 0], EFAULT),
+        (GETDENTS, [9, 0x2000, 0x30, 0], EBADF),
+        (GETDENTS, [0, 0x2000, 0x100, 0], 0x30),
+        (LSEEK, [0, 0, 1, 0], 3),
+        (GETDENTS, [0, 0x2100, 0x100, 0], EOVERFLOW),
+        (GETDENTS64, [0, 0x2040, 0x100, 0], 0x18),
+        (GETDENTS, [0, 0x2100, 0x100, 0], 0),
+        (LSEEK, [0, 0, 0, 0], 0),
+        (GETDENTS, [0, 0x2ff0, 0x30, 0], 0x10),
+        (LSEEK, [0, 0, 1, 0], 1),
+    ];
+    are_served::<Ia32>(&rt, rt.alloc(), &mut world, &calls);
+    are_stored(&rt, &world, 0x2000, &[5, 0, 0, 0, 1, 0, 0, 0]);
+    are_stored(&rt, &world, 0x2008, b"\x10\0.\0\0\0\0\x04");
+    are_stored(&rt, &world, 0x2010, &[2, 0, 0, 0, 2, 0, 0, 0]);
+    are_stored(&rt, &world, 0x2018, b"\x10\0..\0\0\0\x04");
+    are_stored(&rt, &world, 0x2020, &[7, 0, 0, 0, 3, 0, 0, 0]);
+    are_stored(&rt, &world, 0x2028, b"\x10\0a\0\0\0\0\x08");
+    are_stored(&rt, &world, 0x2030, &[0; 8]);
+    are_stored(&rt, &world, 0x2040, &[0, 0, 0, 0, 1, 0, 0, 0]);
+    are_stored(&rt, &world, 0x2048, &[4, 0, 0, 0, 0, 0, 0, 0]);
+    are_stored(&rt, &world, 0x2050, b"\x18\0\x08b\0\0\0\0");
+    are_stored(&rt, &world, 0x2100, &[0; 8]);
+    Ok(())
+}
+
+#[test]
+fn a_size_without_form_is_refused_first(rt: HostRuntime) -> Result<(), Fail> {
+    let mut world = start(rt.alloc()).ok_or("memory")?;
+    let calls = [
+        (STAT, [0x1020, 0x3000, 0, 0], EOVERFLOW),
+        (STAT64, [0x1020, 0x3000, 0, 0], EFAULT),
+        (STAT64, [0x1020, 0x2000, 0, 0], 0),
+        (STAT, [0x1000, 0x2080, 0, 0], 0),
+        (FSTAT, [0, 0x2080, 0, 0], EBADF),
+    ];
+    are_served::<Ia32>(&rt, rt.alloc(), &mut world, &calls);
+    // The size, and then the device and the inode.
+    are_stored(&rt, &world, 0x202c, &[1, 0, 0, 0x80, 0, 0, 0, 0]);
+    are_stored(&rt, &world, 0x2080, &[1, 0, 0, 0, 7, 0, 0, 0]);
+    Ok(())
+}
+
+#[test]
+fn an_empty_path_means_the_descriptor(rt: HostRuntime) -> Result<(), Fail> {
+    let mut world = start(rt.alloc()).ok_or("memory")?;
+    let calls = [
+        (OPEN, [0x1000, 0, 0, 0], 0),
+        (FSTATAT64, [0, 0x1040, 0x2000, 0], ENOENT),
+        (FSTATAT64, [0, 0x1040, 0x2000, 0x2000], EINVAL),
+        (FSTATAT64, [0, 0x1040, 0x2000, 0x1000], 0),
+        (FSTAT64, [0, 0x2080, 0, 0], 0),
+        (FSTAT, [0, 0x2100, 0, 0], 0),
+    ];
+    are_served::<ArmEabi>(&rt, rt.alloc(), &mut world, &calls);
+    // The size twice, and the device and the inode.
+    are_stored(&rt, &world, 0x2030, &[5, 0, 0, 0, 0, 0, 0, 0]);
+    are_stored(&rt, &world, 0x20b0, &[5, 0, 0, 0, 0, 0, 0, 0]);
+    are_stored(&rt, &world, 0x2100, &[1, 0, 0, 0, 7, 0, 0, 0]);
+    Ok(())
+}
+
+#[test]
+fn lengths_times_and_locks_are_set(rt: HostRuntime) -> Result<(), Fail> {
+    let mut world = start(rt.alloc()).ok_or("memory")?;
+    let calls = [
+        (OPEN, [0x1000, 2, 0, 0], 0),
+        (TRUNCATE, [0x1000, 3, 0, 0], 0),
+        (TRUNCATE64, [0x1000, 0x100_0000_0001, 0, 0], EFBIG),
+        (FTRUNCATE, [0, 4, 0, 0], 0),
+        (FALLOCATE, [0, 0, 1, 7], 0),
+        (PREAD64, [0, 0x2020, 9, 0], 8),
+        (UTIMENSAT, [-100, 0x1000, 0, 0], 0),
+        (FCNTL, [0, 7, 0x2000, 0], 0),
+        (FCNTL, [0, 5, 0x2000, 0], 0),
+        (FCNTL, [0, 12, 0x2010, 0], EINVAL),
+        (FCNTL64, [0, 14, 0x2010, 0], 0),
+        (FCNTL64, [0, 12, 0x2010, 0], 0),
+        (FCNTL64, [0, 12, 0x4000, 0], EFAULT),
+    ];
+    are_served::<Ia32>(&rt, rt.alloc(), &mut world, &calls);
+    are_stored(&rt, &world, 0x2000, &[2, 0, 0, 0, 0, 0, 0, 0]);
+    are_stored(&rt, &world, 0x2010, &[2, 0, 0, 0, 0, 0, 0, 0]);
+    are_stored(&rt, &world, 0x2020, b"hel\0\0\0\0\0");
     Ok(())
 }

@@ -1,9 +1,9 @@
 //! The records of a directory: `struct compat_linux_dirent` of `fs/readdir.c`, which getdents stores, and
 //! `struct linux_dirent64` of `include/linux/dirent.h`, which getdents64 stores. Both ABIs have the same.
 
-ghost use Rattle.std.specs.Prelude.{◌≡◌, ◌≤◌, ◌+◌, ◌-◌, ◌^◌, ◌%◌, length, drop, replicate, ◌++◌, [], ◌∷◌};
+ghost use Rattle.std.specs.Prelude.{◌≡◌, ◌≤◌, ◌+◌, ◌-◌, ◌^◌, ◌%◌, length, drop, replicate, ◌++◌, [], ◌∷◌, IfSome};
 ghost use Rattle.byteorder.specs.Endian.{little_bytes};
-ghost use Rattle.file_layouts.specs.Directories.{record_length, length_bytes, dirent_answer, dirent_put};
+ghost use Rattle.file_layouts.specs.Directories.{record_length, length_bytes, dirent_answer, dirent_bytes, dirent_put};
 
 use byteorder::{ByteOrder, LittleEndian};
 use kernel_values::DirEntry;
@@ -17,14 +17,27 @@ pub enum DirentFault {
     NoForm,
 }
 
+/// Bytes of the record of an entry, the wide one of getdents64 or the narrow one of getdents.
+pub fn dirent_length(entry: &DirEntry, wide: bool) -> usize
+    ensures { result ≡ record_length wide (length entry.now.name) }
+{
+    let name = entry.name.as_slice();
+    if wide {
+        (19 + name.len() + 1 + 7) / 8 * 8
+    } else {
+        (10 + name.len() + 2 + 3) / 4 * 4
+    }
+}
+
 /// Puts the record of an entry at the begin of a place, the wide one of getdents64 or the narrow one of
 /// getdents, and tells its length. After an error the place is as before.
 pub fn put_dirent(entry: &DirEntry, wide: bool, out: &mut [u8]) -> Result<usize, DirentFault>
     ensures answer { result ≡ dirent_answer wide entry.now out.old }
     ensures bytes { out.new ≡ dirent_put wide entry.now out.old }
+    ensures length { IfSome (dirent_bytes wide entry.now) (λ bs. length bs ≡ record_length wide (length entry.now.name)) }
 {
     let name = entry.name.as_slice();
-    let size = record_size(wide, name);
+    let size = dirent_length(entry, wide);
     if out.len() < size {
         return Err(DirentFault::NoRoom);
     }
@@ -39,17 +52,6 @@ pub fn put_dirent(entry: &DirEntry, wide: bool, out: &mut [u8]) -> Result<usize,
     let place = &mut out[..size];
     put_narrow(inode, entry.position, entry.kind, name, size, place);
     Ok(size)
-}
-
-/// Bytes of the record of a name.
-fn record_size(wide: bool, name: &[u8]) -> usize
-    ensures { result ≡ record_length wide (length name.now) }
-{
-    if wide {
-        (19 + name.len() + 1 + 7) / 8 * 8
-    } else {
-        (10 + name.len() + 2 + 3) / 4 * 4
-    }
 }
 
 // The wide record, from its inode on.

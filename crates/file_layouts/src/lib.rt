@@ -8,7 +8,7 @@ pub mod stat;
 pub mod stat64;
 mod words;
 
-pub use directories::{DirentFault, put_dirent};
+pub use directories::{DirentFault, dirent_length, put_dirent};
 pub use locks::{Lock32, Lock64};
 pub use positions::Position64;
 pub use stat::Stat32;

@@ -5,7 +5,9 @@ pub mod Texts
 pub mod Slots
 pub mod SlabSteps
 pub mod Ordered
+pub mod Lines
 pub mod Moves
 pub mod Closings
 pub mod FileItems
 pub mod Insides
+pub mod Links

@@ -3,12 +3,12 @@ use Rattle.std.specs.Prelude.{ℕ, zero, suc, ℤ, pos, negsuc, ◌-◌, ◌+ℤ
 use Rattle.kernel_values.specs.Outcome.{◌>>=◌, ◌>>◌, refused_if, settled}
 use Rattle.kernel_values.specs.OpenFlags.{can_read, can_write, with_status}
 use Rattle.kernel_values.specs.declared.errno.Errno.{Errno}
-use Rattle.kernel_values.specs.declared.errno.Errno.TheVariants.{BadDescriptor, InvalidArgument, TableFull, TooManyDescriptors}
+use Rattle.kernel_values.specs.declared.errno.Errno.TheVariants.{BadDescriptor, IllegalSeek, InvalidArgument, TableFull, TooManyDescriptors}
 use Rattle.kernel_values.specs.declared.items.OpenKind.{OpenKind}
-use Rattle.kernel_values.specs.declared.items.OpenKind.TheVariants.{File, Directory}
+use Rattle.kernel_values.specs.declared.items.OpenKind.TheVariants.{File, Directory, PipeRead, PipeWrite}
 use Rattle.kernel_values.specs.declared.open_flags.OpenFlags.{OpenFlags}
 use Rattle.file_store.specs.Table.{at, first_free, put, removed}
-use Rattle.file_store.specs.Releasing.{released}
+use Rattle.file_store.specs.Releasing.{released, without_locks}
 use Rattle.file_store.specs.Made.{is_full, one_opened}
 use Rattle.file_store.specs.Contents.{content_of}
 use Rattle.file_store.specs.declared.state.Descriptor.{Descriptor}
@@ -36,8 +36,24 @@ open_file s fd = do
 
 -- an open file is of a directory
 abbrev pub is_of_directory : OpenKind → Bool
-is_of_directory Directory = true
 is_of_directory File = false
+is_of_directory Directory = true
+is_of_directory PipeRead = false
+is_of_directory PipeWrite = false
+
+-- an open file is an end of a pipe
+abbrev pub is_of_pipe : OpenKind → Bool
+is_of_pipe File = false
+is_of_pipe Directory = false
+is_of_pipe PipeRead = true
+is_of_pipe PipeWrite = true
+
+-- an open file is of a file with bytes
+abbrev pub is_of_file : OpenKind → Bool
+is_of_file File = true
+is_of_file Directory = false
+is_of_file PipeRead = false
+is_of_file PipeWrite = false
 
 -- how many bytes the file has
 abbrev pub content_size : Files → OpenFile → ℕ
@@ -63,10 +79,11 @@ with_open_file s serial f = record s { open_files = put s.open_files serial f }
 abbrev pub with_position : Files → ℕ → OpenFile → ℕ → Files
 with_position s serial f p = with_open_file s serial (record f { position = p })
 
--- lseek; a directory has no end to count from, and no position above 2^31 - 1
+-- lseek; a pipe has no position, and a directory no end to count from and no position above 2^31 - 1
 abbrev pub seek : Files → ℤ → ℤ → ℕ → Result ℤ Errno × Files
 seek s fd offset whence = settled s (do
   f ← open_file s fd
+  refused_if (is_of_pipe f.1.kind) IllegalSeek
   base ← seek_base s f.1 whence
   p ← in_range (pos base +ℤ offset)
   refused_if (is_of_directory f.1.kind && ((whence == 2) || nat_lt 0x7fffffff p)) InvalidArgument
@@ -90,9 +107,9 @@ duplicate s limit fd least cloexec = settled s (do
   refused_if (is_full s.made) TableFull
   Ok (n, with_descriptor s n (record { serial = d.1.serial; cloexec = cloexec })))
 
--- a descriptor is gone, and with the last one of an open file that too
+-- a descriptor is gone, and the locks on its file, and with the last one of an open file that too
 unfoldable pub closed : Files → ℕ → ℕ → Files
-closed s n serial = released (record s { descriptors = removed s.descriptors n }) serial
+closed s n serial = released (without_locks (record s { descriptors = removed s.descriptors n }) serial) serial
 
 abbrev pub close : Files → ℤ → Result ⊤ Errno × Files
 close s fd = settled s (do

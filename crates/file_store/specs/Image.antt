@@ -33,6 +33,8 @@ fresh_files = record {
   nodes = (2, image_node 0x41ed) ∷ [];
   directories = (2, empty_directory 2) ∷ [];
   contents = [];
+  own_locks = [];
+  foreign_locks = [];
   numbers = record { image = []; next = 0x1000 };
   made = record { things = 0; last_serial = 0 };
   working = 2;

@@ -8,6 +8,7 @@ pub mod Contents
 pub mod Directories
 pub mod Holding
 pub mod Releasing
+pub mod Locks
 pub mod Descriptors
 pub mod Paths
 pub mod Making
@@ -21,3 +22,6 @@ pub mod NewDirectory
 pub mod Removing
 pub mod Renaming
 pub mod Listing
+pub mod Status
+pub mod Lengths
+pub mod Retiming

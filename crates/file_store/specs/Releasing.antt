@@ -1,10 +1,19 @@
--- What ends with the last descriptor of an open file.
+-- What ends with a descriptor, and what with the last one of an open file.
 use Rattle.std.specs.Prelude.{ℕ, ◌||◌, Bool, true, Option, Some, None, if◌then◌else◌}
 use Rattle.file_store.specs.Table.{at, removed}
 use Rattle.file_store.specs.Holding.{is_open, names}
 use Rattle.file_store.specs.declared.state.Files.{Files}
 use Rattle.file_store.specs.declared.state.Node.{Node}
 use Rattle.file_store.specs.declared.state.OpenFile.{OpenFile}
+
+-- the state without the locks on a file
+abbrev pub unlocked_as : Files → Option OpenFile → Files
+unlocked_as s None = s
+unlocked_as s (Some f) = record s { own_locks = removed s.own_locks f.inode }
+
+-- the process's locks on a file go with any descriptor of it
+unfoldable pub without_locks : Files → ℕ → Files
+without_locks s serial = unlocked_as s (at s.open_files serial)
 
 -- a directory has a name of it
 abbrev pub stays_as : Option Node → Bool

@@ -1,12 +1,12 @@
--- Reads and writes of files.
+-- Reads and writes of files. A pipe has no place to begin at.
 use Rattle.std.specs.Prelude.{ℕ, ℤ, pos, negsuc, ◌+◌, ◌-◌, ◌^◌, ◌==◌, ◌&&◌, min, not, nat_le, length, take, drop, List, [], ◌∷◌, Result, Ok, Err, if◌then◌else◌}
 use Rattle.kernel_values.specs.Outcome.{◌>>=◌, ◌>>◌, refused_if, settled}
 use Rattle.kernel_values.specs.OpenFlags.{appends, can_read, can_write, is_large}
 use Rattle.kernel_values.specs.declared.errno.Errno.{Errno}
-use Rattle.kernel_values.specs.declared.errno.Errno.TheVariants.{BadAddress, BadDescriptor, FileTooLarge, InvalidArgument, IsDirectory}
+use Rattle.kernel_values.specs.declared.errno.Errno.TheVariants.{BadAddress, BadDescriptor, FileTooLarge, IllegalSeek, InvalidArgument, IsDirectory}
 use Rattle.kernel_values.specs.declared.times.TimeSpec.{TimeSpec}
 use Rattle.file_store.specs.Contents.{content_of, overwritten}
-use Rattle.file_store.specs.Descriptors.{content_size, is_of_directory, open_file, with_position}
+use Rattle.file_store.specs.Descriptors.{content_size, is_of_directory, is_of_pipe, open_file, with_position}
 use Rattle.file_store.specs.Making.{touched}
 use Rattle.file_store.specs.declared.state.OpenFile.{OpenFile}
 use Rattle.file_store.specs.declared.state.Place.{Place}
@@ -34,6 +34,7 @@ read s fd wanted room place = settled s (do
   f ← open_file s fd
   refused_if (not (can_read f.1.flags)) BadDescriptor
   refused_if (is_of_directory f.1.kind) IsDirectory
+  refused_if (is_of_pipe f.1.kind) IllegalSeek
   start ← place_of f.1 place
   let n = min (bytes_left s f.1 start wanted) room
   refused_if (not (bytes_left s f.1 start wanted == 0) && (room == 0)) BadAddress
@@ -72,6 +73,7 @@ write s now fd wanted piece place = settled s (do
   f ← open_file s fd
   refused_if (not (can_write f.1.flags)) BadDescriptor
   refused_if (is_of_directory f.1.kind) IsDirectory
+  refused_if (is_of_pipe f.1.kind) IllegalSeek
   start ← write_place s f.1 place
   if wanted == 0 then Ok (0, s) else do
     refused_if (nat_le (size_limit f.1) start) FileTooLarge

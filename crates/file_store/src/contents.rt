@@ -1,9 +1,11 @@
 //! The bytes of files, by inode number.
 
 ghost use Rattle.std.specs.Prelude.{◌≡◌, ℕ, List, [], ◌+◌, ◌<◌, ◌≤◌, ◌^◌, ◌++◌, length, take, drop, replicate, OnOk, IfSome, MatchOption, ◌∷◌};
+ghost use Rattle.file_bytes.specs.Filled.{filled_pages};
 ghost use Rattle.file_bytes.specs.Runs.{runs_from};
 ghost use Rattle.file_store.specs.Table.{at, put, removed};
 ghost use Rattle.file_store.specs.Contents.{content_of, overwritten, reaches};
+ghost use Rattle.file_store.specs.Lengths.{relengthened};
 
 use file_bytes::{Content, Run};
 use kernel_values::OutOfMemory;
@@ -18,6 +20,8 @@ pub struct Contents {
 }
 
 impl Model for Contents {
+    ghost use Rattle.std.specs.Prelude.{ℕ, List};
+
     ghost Value = { List (ℕ × List ℕ) };
 
     ghost view = { λ c. c.map.entries };
@@ -73,6 +77,18 @@ impl Contents {
     {
         match self.map.get(&inode) {
             Some(content) => content.len(),
+            None => 0,
+        }
+    }
+
+    /// How many pages of 4,096 bytes of a file hold a byte other than 0.
+    #[tactic(auto, using(crate::proofs::Links::no_filled_pages))]
+    pub(crate) fn filled_pages(&self, inode: u64) -> u64
+        ensures count { result ≡ filled_pages (content_of self.now inode) }
+        ensures limit { result ≤ 2 ^ 28 }
+    {
+        match self.map.get(&inode) {
+            Some(content) => content.filled_pages(),
             None => 0,
         }
     }
@@ -139,6 +155,17 @@ impl Contents {
         match self.map.get_mut(&inode) {
             Some(content) => content.write(alloc, start, from),
             None => Ok(()),
+        }
+    }
+
+    /// Gives a file another length, where it is there. It takes no memory.
+    #[tactic(auto, unfolding(crate::specs::Lengths::relengthened))]
+    pub(crate) fn set_length(&mut self, inode: u64, length: u64)
+        requires { length ≤ 2 ^ 40 }
+        ensures { self.new ≡ relengthened self.old inode length }
+    {
+        if let Some(content) = self.map.get_mut(&inode) {
+            content.set_length(length);
         }
     }
 }

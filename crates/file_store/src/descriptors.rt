@@ -3,7 +3,7 @@
 ghost use Rattle.std.specs.Prelude.{◌≡◌, ℕ, ◌-◌, ◌+◌, ◌+ℤ◌, ◌<◌, ◌≤◌, ◌^◌, pos, Some, IsSome, IfOk, length};
 ghost use Rattle.kernel_values.specs.Outcome.{Gives, GivesAlways, Tells};
 ghost use Rattle.file_store.specs.Table.{at};
-ghost use Rattle.file_store.specs.Descriptors.{descriptor_of, in_range, is_of_directory, number_of, open_file, seek, seek_base, with_open_file, with_position};
+ghost use Rattle.file_store.specs.Descriptors.{descriptor_of, in_range, is_of_directory, is_of_file, is_of_pipe, number_of, open_file, seek, seek_base, with_open_file, with_position};
 
 use crate::state::{Descriptor, Files, OpenFile};
 use kernel_values::{Answer, Errno, KernelFault, OpenKind};
@@ -21,7 +21,27 @@ pub(crate) fn is_of_directory(kind: OpenKind) -> bool
 {
     match kind {
         OpenKind::Directory => true,
-        OpenKind::File => false,
+        OpenKind::File | OpenKind::PipeRead | OpenKind::PipeWrite => false,
+    }
+}
+
+/// Whether an open file is an end of a pipe.
+pub(crate) fn is_of_pipe(kind: OpenKind) -> bool
+    ensures { result ≡ is_of_pipe kind }
+{
+    match kind {
+        OpenKind::PipeRead | OpenKind::PipeWrite => true,
+        OpenKind::File | OpenKind::Directory => false,
+    }
+}
+
+/// Whether an open file is of a file with bytes.
+pub(crate) fn is_of_file(kind: OpenKind) -> bool
+    ensures { result ≡ is_of_file kind }
+{
+    match kind {
+        OpenKind::File => true,
+        OpenKind::Directory | OpenKind::PipeRead | OpenKind::PipeWrite => false,
     }
 }
 
@@ -90,7 +110,7 @@ impl Files {
     }
 
     /// The place from which a seek counts. EINVAL for a `whence` above 2.
-    fn seek_base(&self, file: &OpenFile, whence: u32) -> Result<u64, Errno>
+    pub(crate) fn seek_base(&self, file: &OpenFile, whence: u32) -> Result<u64, Errno>
         ensures { Tells result (seek_base self.now file.now whence) }
     {
         match whence {
@@ -104,12 +124,15 @@ impl Files {
     /// lseek: moves the position of an open file, from its start, its position or its end (`SEEK_SET`,
     /// `SEEK_CUR` and `SEEK_END` of `include/uapi/linux/fs.h`), and gives the new one.
     ///
-    /// EBADF; EINVAL for a `whence` above 2, for a position below 0 or above 2^40, and for a directory from its
-    /// end or above 2^31 - 1.
+    /// EBADF; ESPIPE for a pipe; EINVAL for a `whence` above 2, for a position below 0 or above 2^40, and for a
+    /// directory from its end or above 2^31 - 1.
     pub fn seek(&mut self, fd: i64, offset: i64, whence: u32) -> Answer<i64>
         ensures { GivesAlways (λ p. p) result self.new (seek self.old fd offset whence) }
     {
         let (serial, file) = self.open_file(fd)?;
+        if is_of_pipe(file.kind) {
+            return Err(KernelFault::Errno(Errno::IllegalSeek));
+        }
         let base = self.seek_base(&file, whence)?;
         let position = moved_position(base, offset)?;
         if is_of_directory(file.kind) && (whence == FROM_END || position > DIRECTORY_END) {

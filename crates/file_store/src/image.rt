@@ -13,7 +13,7 @@ use crate::paths::{ROOT, WORKING};
 use crate::slab_map::SlabMap;
 use crate::state::{Directory, Files, InodeNumbers, Last, Node};
 use crate::table::Table;
-use kernel_values::{Answer, Attributes, Errno, KernelFault, OutOfMemory, TimeSpec};
+use kernel_values::{Answer, Attributes, Errno, ItemList, KernelFault, OutOfMemory, TimeSpec};
 use std::alloc::Global;
 
 /// S_IFDIR and 0755.
@@ -24,7 +24,7 @@ const FILE_MODE: u32 = 0x81a4;
 const FIRST_NUMBER: u64 = 0x1000;
 
 /// The times of what the image makes.
-const NO_TIME: TimeSpec = TimeSpec {
+pub(crate) const NO_TIME: TimeSpec = TimeSpec {
     seconds: 0,
     nanos: 0,
 };
@@ -61,6 +61,8 @@ impl Files {
             nodes,
             directories,
             contents: Contents::new(alloc),
+            own_locks: Table::new(alloc),
+            foreign_locks: ItemList::new(alloc),
             numbers: InodeNumbers {
                 image: Table::new(alloc),
                 next: FIRST_NUMBER,

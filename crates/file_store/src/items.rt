@@ -1,14 +1,16 @@
-//! Files, directories, open files and descriptors told item by item, in the order of a report.
+//! Files, directories, locks, open files and descriptors told item by item, in the order of a report.
 
-ghost use Rattle.std.specs.Prelude.{◌≡◌, ◌+◌, ◌≤◌, [], ◌∷◌, length, take, drop, IfOk, MatchOption};
+ghost use Rattle.std.specs.Prelude.{◌≡◌, ◌+◌, ◌<◌, ◌≤◌, ◌^◌, [], ◌∷◌, length, take, drop, IfOk, IfSome, MatchOption};
 ghost use Rattle.kernel_values.specs.Items.{TellsFirst};
 ghost use Rattle.file_store.specs.Table.{after, after_key};
 ghost use Rattle.file_store.specs.Contents.{content_of};
+ghost use Rattle.file_store.specs.Locks.{locks_on};
 ghost use Rattle.file_store.specs.Items.{file_items, files_left, names_in};
 
 use crate::paths::ROOT;
 use crate::state::{Entry, Files};
 use kernel_values::{ByteList, NameText, OutOfMemory, StateItem};
+use record_locks::OwnLock;
 use std::alloc::Global;
 
 /// Where the telling of files is: a part of what is told, and the last of that part that was told.
@@ -22,6 +24,8 @@ pub enum FileCursor {
     Names { directory: u64, last: Option<u64> },
     /// At the bytes of a file from an offset on.
     Bytes { inode: u64, offset: u64 },
+    /// At the locks on a file, behind so many of them.
+    Locks { inode: u64, count: usize },
     /// At descriptors whose number is greater than this one.
     Descriptors(Option<u64>),
     /// At open files whose serial number is greater than this one.
@@ -80,7 +84,7 @@ impl Files {
             Some((inode, node)) => {
                 let item = StateItem::Node {
                     inode,
-                    kind: self.kind_of(inode),
+                    is_directory: self.directories.has(inode),
                     size: self.contents.len(inode),
                     attributes: node.attributes,
                 };
@@ -88,6 +92,39 @@ impl Files {
                 Some((item, FileCursor::Names { directory, last }))
             }
             None => self.descriptor_item(None),
+        }
+    }
+
+    /// The lock on a file behind so many of the first ones.
+    fn lock_after(&self, inode: u64, count: usize) -> Option<OwnLock>
+        ensures next { MatchOption result (drop count (locks_on self.now.own_locks inode) ≡ [])
+            (λ l. drop count (locks_on self.now.own_locks inode) ≡ l ∷ drop (count + 1) (locks_on self.now.own_locks inode)) }
+        ensures few { IfSome result (λ l. count + 1 < 2 ^ 64) }
+    {
+        let locks = self.own_locks.get(inode)?.as_slice();
+        if count < locks.len() {
+            Some(locks[count])
+        } else {
+            None
+        }
+    }
+
+    #[tactic(auto, unfolding(crate::specs::Items::files_left))]
+    fn lock_item(&self, inode: u64, count: usize) -> Told
+        ensures { TellsFirst (files_left self.now) (FileCursor.Locks inode count) result }
+    {
+        match self.lock_after(inode, count) {
+            Some(lock) => {
+                let item = StateItem::Lock {
+                    inode,
+                    write: lock.write,
+                    first: lock.first,
+                    last: lock.last,
+                };
+                let count = count + 1;
+                Some((item, FileCursor::Locks { inode, count }))
+            }
+            None => self.node_item(Some(inode)),
         }
     }
 
@@ -112,7 +149,7 @@ impl Files {
         ensures { IfOk result (λ told. TellsFirst (files_left self.now) (FileCursor.Bytes inode offset) told) }
     {
         let Some(run) = self.contents.next_run(inode, offset) else {
-            return Ok(self.node_item(Some(inode)));
+            return Ok(self.lock_item(inode, 0));
         };
         let bytes = self.bytes_of(alloc, inode, run.at, run.length)?;
         let item = StateItem::Bytes {
@@ -179,6 +216,7 @@ impl Files {
             FileCursor::Nodes(last) => Ok(self.node_item(last)),
             FileCursor::Names { directory, last } => self.name_item(alloc, directory, last),
             FileCursor::Bytes { inode, offset } => self.bytes_item(alloc, inode, offset),
+            FileCursor::Locks { inode, count } => Ok(self.lock_item(inode, count)),
             FileCursor::Descriptors(last) => Ok(self.descriptor_item(last)),
             FileCursor::OpenFiles(last) => Ok(self.open_file_item(last)),
         }

@@ -1,8 +1,8 @@
 //! The listing of a directory, entry by entry.
 
-ghost use Rattle.std.specs.Prelude.{◌≡◌, ℕ, ◌∷◌, [], Option, IfOk, option_map};
-ghost use Rattle.kernel_values.specs.Outcome.{GivesTold};
-ghost use Rattle.file_store.specs.Listing.{entry_after, entry_kind, first_line, line_after, told};
+ghost use Rattle.std.specs.Prelude.{◌≡◌, ◌<◌, ◌∷◌, [], map, IfOk, IfSome, MatchOption};
+ghost use Rattle.kernel_values.specs.Outcome.{Tells};
+ghost use Rattle.file_store.specs.Listing.{TellsEntry, entry_kind, line_of, lines, listing, position, told};
 ghost use Rattle.file_store.specs.Table.{after_key};
 
 use crate::state::{Directory, Entry, Files};
@@ -26,7 +26,9 @@ struct Line<'a> {
 impl Table<Entry> {
     /// The line of the first entry at a greater position.
     fn line_after(&self, position: u64) -> Option<Line<'_>>
-        ensures { option_map (λ l. (l.position, l.name.now, l.inode)) result ≡ first_line (after_key self.now position) }
+        ensures line { MatchOption result (map line_of (after_key self.now position) ≡ [])
+            (λ l. map line_of (after_key self.now position) ≡ (l.position, (l.name.now, l.inode)) ∷ map line_of (after_key self.now l.position)) }
+        ensures behind { IfSome result (λ l. position < l.position) }
     {
         let (position, entry) = self.after(Some(position))?;
         Some(Line {
@@ -39,9 +41,11 @@ impl Table<Entry> {
 
 impl Directory {
     /// The first line at a greater position, of the directory that is inode `here`.
-    #[tactic(auto, unfolding(crate::specs::Listing::line_after))]
+    #[tactic(auto, using(crate::proofs::Lines::lines_from, crate::proofs::Lines::after_dot, crate::proofs::Lines::after_dot_dot), unfolding(crate::specs::Listing::lines))]
     fn line_after(&self, here: u64, position: u64) -> Option<Line<'_>>
-        ensures { option_map (λ l. (l.position, l.name.now, l.inode)) result ≡ line_after self.now here position }
+        ensures line { MatchOption result (after_key (lines self.now here) position ≡ [])
+            (λ l. after_key (lines self.now here) position ≡ (l.position, (l.name.now, l.inode)) ∷ after_key (lines self.now here) l.position) }
+        ensures behind { IfSome result (λ l. position < l.position) }
     {
         if position < 1 {
             return Some(Line {
@@ -74,7 +78,7 @@ impl Table<Directory> {
     }
 
     fn told(&self, alloc: Global, line: Line<'_>) -> Result<DirEntry, OutOfMemory>
-        ensures { IfOk result (λ e. e ≡ told self.now (line.entry.position, line.entry.name.now, line.entry.inode)) }
+        ensures { IfOk result (λ e. e ≡ told self.now (line.entry.position, (line.entry.name.now, line.entry.inode))) }
     {
         Ok(DirEntry {
             inode: line.inode,
@@ -83,33 +87,33 @@ impl Table<Directory> {
             name: NameText::from_slice(alloc, line.name)?,
         })
     }
-
-    fn told_line(
-        &self,
-        alloc: Global,
-        line: Option<Line<'_>>,
-    ) -> Result<Option<DirEntry>, OutOfMemory>
-        ensures { IfOk result (λ e. e ≡ option_map (told self.now) (option_map (λ l. (l.position, l.name.now, l.inode)) line.entry)) }
-    {
-        match line {
-            Some(line) => Ok(Some(self.told(alloc, line)?)),
-            None => Ok(None),
-        }
-    }
 }
 
 impl Files {
     /// The first entry at a greater position of the directory that a descriptor has open: `.` stands at position 1, `..`
     /// at 2, and the names follow in the order of their making. None where no entry has a greater position. EBADF;
     /// ENOTDIR.
+    #[tactic(auto, unfolding(crate::specs::Listing::listing, crate::specs::Listing::listed_after))]
     pub fn entry_after(&self, alloc: Global, fd: i64, position: u64) -> Answer<Option<DirEntry>>
-        ensures { GivesTold (λ e. e) result (entry_after self.now fd position) }
+        ensures told { TellsEntry (listing self.now fd) position result }
+        ensures behind { IfOk result (λ found. IfSome found (λ e. position < e.position)) }
     {
         let (_, file) = self.open_file(fd)?;
         let Some(directory) = self.directories.get(file.inode) else {
             return Err(KernelFault::Errno(Errno::NotDirectory));
         };
-        let line = directory.line_after(file.inode, position);
-        Ok(self.directories.told_line(alloc, line)?)
+        match directory.line_after(file.inode, position) {
+            Some(line) => Ok(Some(self.directories.told(alloc, line)?)),
+            None => Ok(None),
+        }
+    }
+
+    /// Where the listing of an open directory goes on: the position of an open file. EBADF.
+    #[tactic(auto, unfolding(crate::specs::Listing::position))]
+    pub fn position(&self, fd: i64) -> Result<u64, Errno>
+        ensures { Tells result (position self.now fd) }
+    {
+        let (_, file) = self.open_file(fd)?;
+        Ok(file.position)
     }
 }

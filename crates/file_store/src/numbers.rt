@@ -81,11 +81,12 @@ impl Files {
         ensures { self.new ≡ closed self.old number serial }
     {
         let _closed = self.descriptors.remove(number);
+        self.drop_locks(serial);
         self.release(serial);
     }
 
-    /// Closes a descriptor. Its open file ends with its last descriptor, and a file without a name with the
-    /// last open file. EBADF.
+    /// Closes a descriptor. The process's locks on its file go with it; its open file ends with its last descriptor,
+    /// and a file without a name with the last open file. EBADF.
     pub fn close(&mut self, fd: i64) -> Answer<()>
         ensures { GivesAlways (λ _. tt) result self.new (close self.old fd) }
     {

@@ -13,7 +13,8 @@ pub(crate) const ROOT: u64 = 2;
 /// `AT_FDCWD` of `include/uapi/linux/fcntl.h`: the working directory in place of a descriptor.
 pub const WORKING: i64 = -100;
 
-fn is_working(fd: i64) -> bool
+/// Whether a descriptor means the working directory.
+pub(crate) fn is_working(fd: i64) -> bool
     ensures { result ≡ is_working fd }
 {
     fd == WORKING

@@ -1,8 +1,8 @@
-//! What ends with the last descriptor of an open file.
+//! What ends with a descriptor, and what with the last one of an open file.
 
 ghost use Rattle.std.specs.Prelude.{◌≡◌, ℕ};
 ghost use Rattle.file_store.specs.Table.{at};
-ghost use Rattle.file_store.specs.Releasing.{let_go, released, stays_as};
+ghost use Rattle.file_store.specs.Releasing.{let_go, released, stays_as, without_locks};
 
 use crate::state::{Files, Node};
 use crate::table::Table;
@@ -20,6 +20,17 @@ impl Table<Node> {
 }
 
 impl Files {
+    /// Drops the process's locks on the file that an open file is of.
+    #[tactic(auto, unfolding(crate::specs::Releasing::without_locks))]
+    pub(crate) fn drop_locks(&mut self, serial: u64)
+        ensures { self.new ≡ without_locks self.old serial }
+    {
+        if let Some(file) = self.open_files.get(serial) {
+            let inode = file.inode;
+            let _locks = self.own_locks.remove(inode);
+        }
+    }
+
     /// Drops a file that has no name and that no open file holds.
     #[tactic(auto, unfolding(crate::specs::Releasing::let_go))]
     fn let_go(&mut self, inode: u64)

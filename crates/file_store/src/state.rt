@@ -4,7 +4,8 @@ use crate::contents::Contents;
 use crate::made::Made;
 use crate::slab_map::SlabMap;
 use crate::table::Table;
-use kernel_values::{Attributes, NameText, OpenFlags, OpenKind, TimeSpec};
+use kernel_values::{Attributes, ItemList, NameText, OpenFlags, OpenKind, TimeSpec};
+use record_locks::{ForeignLock, LockList};
 
 /// A descriptor.
 #[derive(Clone, Copy, Debug)]
@@ -96,10 +97,14 @@ pub struct Files {
     pub(crate) descriptors: Table<Descriptor>,
     /// By serial number.
     pub(crate) open_files: SlabMap<OpenFile>,
-    /// What files and directories have in common, by inode number, as all that follow.
+    /// What files and directories have in common, by inode number, as the next three.
     pub(crate) nodes: Table<Node>,
     pub(crate) directories: Table<Directory>,
     pub(crate) contents: Contents,
+    /// The locks that the process has, by the inode number of their file.
+    pub(crate) own_locks: Table<LockList>,
+    /// The locks that other processes have, in the order of the image's lines.
+    pub(crate) foreign_locks: ItemList<ForeignLock>,
     pub(crate) numbers: InodeNumbers,
     pub(crate) made: Made,
     /// The inode of the working directory.

@@ -4,6 +4,8 @@ use std::alloc::Global;
 use std::test::Fail;
 
 mod directories;
+mod lengths;
+mod status;
 
 const LIMIT: u64 = 1024;
 
@@ -43,6 +45,13 @@ fn told_fault(fault: KernelFault) -> i64 {
 fn told(answer: Answer<u64>) -> i64 {
     match answer {
         Ok(number) => (number % 0x10000) as i64,
+        Err(fault) => told_fault(fault),
+    }
+}
+
+fn done(answer: Answer<()>) -> i64 {
+    match answer {
+        Ok(()) => 0,
         Err(fault) => told_fault(fault),
     }
 }

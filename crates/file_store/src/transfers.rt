@@ -6,7 +6,7 @@ ghost use Rattle.file_store.specs.Table.{at};
 ghost use Rattle.file_store.specs.Contents.{content_of};
 ghost use Rattle.file_store.specs.Transfers.{MovesBytes, bytes_left, moved_on, place_of, read, size_limit, with_bytes, with_written, write, write_place};
 
-use crate::descriptors::{FILE_END, is_of_directory};
+use crate::descriptors::{FILE_END, is_of_directory, is_of_pipe};
 use crate::state::{Files, OpenFile, Place};
 use kernel_values::{Answer, Errno, KernelFault, OutOfMemory, TimeSpec};
 use std::alloc::Global;
@@ -81,7 +81,7 @@ impl Files {
 
     /// read and pread64: gives bytes, at most `wanted` and at most as many as there is `room` for in memory.
     ///
-    /// EBADF, also where it isn't open for reading; EISDIR; EINVAL for a place below 0; EFAULT where bytes
+    /// EBADF, also where it isn't open for reading; EISDIR; ESPIPE for a pipe; EINVAL for a place below 0; EFAULT where bytes
     /// could be read and there is no room. Memory may be wanting only where bytes are read.
     #[tactic(auto, using(crate::proofs::Moves::some_moved))]
     pub fn read(
@@ -101,6 +101,9 @@ impl Files {
         }
         if is_of_directory(file.kind) {
             return Err(KernelFault::Errno(Errno::IsDirectory));
+        }
+        if is_of_pipe(file.kind) {
+            return Err(KernelFault::Errno(Errno::IllegalSeek));
         }
         let start = place_of(&file, place)?;
         let left = self.bytes_left(&file, start, wanted);
@@ -159,7 +162,7 @@ impl Files {
     /// write and pwrite64: of the `wanted` bytes as many as the file may get and as `piece` has, which are
     /// those that memory gave. It gives how many. `now` is the real time, which the file's times are set to.
     ///
-    /// EBADF, also where it isn't open for writing; EISDIR; EINVAL for a place below 0; EFBIG at or past the
+    /// EBADF, also where it isn't open for writing; EISDIR; ESPIPE for a pipe; EINVAL for a place below 0; EFBIG at or past the
     /// limit of sizes; EFAULT where bytes could be written and there is none.
     pub fn write(
         &mut self,
@@ -178,6 +181,9 @@ impl Files {
         }
         if is_of_directory(file.kind) {
             return Err(KernelFault::Errno(Errno::IsDirectory));
+        }
+        if is_of_pipe(file.kind) {
+            return Err(KernelFault::Errno(Errno::IllegalSeek));
         }
         let start = self.write_place(&file, place)?;
         if wanted == 0 {

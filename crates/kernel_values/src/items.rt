@@ -12,6 +12,10 @@ pub enum OpenKind {
     File,
     /// A directory.
     Directory,
+    /// The end of a pipe that is read from.
+    PipeRead,
+    /// The end of a pipe that is written to.
+    PipeWrite,
 }
 
 /// What a file and a directory have in common, as `struct stat` tells it.
@@ -50,7 +54,7 @@ pub enum StateItem {
     /// A file or a directory. A directory has size 0.
     Node {
         inode: u64,
-        kind: OpenKind,
+        is_directory: bool,
         size: u64,
         attributes: Attributes,
     },
@@ -67,6 +71,13 @@ pub enum StateItem {
         offset: u64,
         bytes: ByteList,
     },
+    /// A lock that the process has on bytes of a file: the first and the last of a maximal range, of writers or of readers.
+    Lock {
+        inode: u64,
+        write: bool,
+        first: u64,
+        last: u64,
+    },
     /// A descriptor, the open file that it names, and its close-on-exec mark.
     Descriptor {
         number: u64,
@@ -80,5 +91,10 @@ pub enum StateItem {
         flags: OpenFlags,
         position: u64,
         inode: u64,
+    },
+    /// A pipe and the bytes that wait in it.
+    Pipe {
+        inode: u64,
+        bytes: ByteList,
     },
 }

@@ -22,7 +22,7 @@ pub use lists::{ByteList, ItemList, NameText, PathText};
 pub use locks::Lock;
 pub use open_flags::OpenFlags;
 pub use process_end::End;
-pub use status::Stat;
+pub use status::{FileTimes, Stat};
 pub use times::{Limit, TimeSpec, TimeVal, TimerValue, Usage};
 
 #[cfg(test)]

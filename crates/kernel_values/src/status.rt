@@ -30,3 +30,13 @@ pub struct Stat {
     /// When anything told here last changed.
     pub ctime: TimeSpec,
 }
+
+/// The times that utimensat sets: `times[0]` and `times[1]` of `utimensat(2)`. The nanoseconds may be `UTIME_NOW` or `UTIME_OMIT` of
+/// `include/linux/stat.h`.
+#[derive(Clone, Copy, Debug, PartialEq, Eq)]
+pub struct FileTimes {
+    /// When it was last read.
+    pub accessed: TimeSpec,
+    /// When its bytes last changed.
+    pub modified: TimeSpec,
+}

@@ -1,11 +1,14 @@
 -- One definition for each call of the kernel: its answer, and the state after it. A row opens none.
 use Rattle.std.specs.Prelude.{Bool, ℕ, ℤ, negsuc, List, Option, Some, None, Result, ⊤}
 use Rattle.kernel_values.specs.declared.errno.Errno.{Errno}
+use Rattle.kernel_values.specs.declared.status.FileTimes.{FileTimes}
 use Rattle.kernel_values.specs.declared.times.Limit.{Limit}
 use Rattle.kernel_values.specs.declared.times.Usage.{Usage}
 use Rattle.kernel_values.specs.declared.times.TimeSpec.{TimeSpec}
 use Rattle.kernel_values.specs.declared.identity.Credentials.{Credentials}
 use Rattle.kernel_values.specs.declared.listing.DirEntry.{DirEntry}
+use Rattle.kernel_values.specs.declared.locks.Lock.{Lock}
+use Rattle.kernel_values.specs.declared.status.Stat.{Stat}
 use Rattle.kernel_values.specs.declared.open_flags.OpenFlags.{OpenFlags}
 use Rattle.kernel_values.specs.Times.{time_of}
 use Rattle.file_store.specs.declared.state.Maker.{Maker}
@@ -14,11 +17,15 @@ use Rattle.file_store.specs.Closing as closing
 use Rattle.file_store.specs.Descriptors as descriptors
 use Rattle.file_store.specs.Image as image
 use Rattle.file_store.specs.Image.{fresh_files}
-use Rattle.file_store.specs.Listing as listing
+use Rattle.file_store.specs.Lengths as lengths
+use Rattle.file_store.specs.Listing as listing_of
+use Rattle.file_store.specs.Locks as locks
 use Rattle.file_store.specs.NewDirectory as new_directory
 use Rattle.file_store.specs.Opening as opening
 use Rattle.file_store.specs.Removing as removing
 use Rattle.file_store.specs.Renaming as renaming
+use Rattle.file_store.specs.Retiming as retiming
+use Rattle.file_store.specs.Status as status_of
 use Rattle.file_store.specs.Transfers as transfers
 use Rattle.file_store.specs.Working as working
 use Rattle.native_kernel.specs.declared.state.Kernel.{Kernel}
@@ -106,6 +113,12 @@ open_flags k fd = on_files k (descriptors.open_flags k.files fd)
 unfoldable pub set_open_flags : Kernel → ℤ → OpenFlags → Result ⊤ Errno × Kernel
 set_open_flags k fd flags = on_files k (descriptors.set_open_flags k.files fd flags)
 
+unfoldable pub status : Kernel → ℤ → Result Stat Errno
+status k fd = status_of.status k.files (maker k) fd
+
+unfoldable pub status_at : Kernel → ℤ → List ℕ → ℤ → Result Stat Errno
+status_at k from path flags = status_of.status_at k.files (maker k) from path flags
+
 unfoldable pub make_dir : Kernel → ℤ → List ℕ → ℕ → Result ⊤ Errno × Kernel
 make_dir k from path mode = on_files k (new_directory.make_directory k.files (maker k) from path mode)
 
@@ -115,8 +128,29 @@ remove k from path flags = on_files k (removing.remove k.files (time_of k.clocks
 unfoldable pub rename_path : Kernel → List ℕ → List ℕ → Result ⊤ Errno × Kernel
 rename_path k old new = on_files k (renaming.rename k.files (time_of k.clocks.real) old new)
 
-unfoldable pub entry_after : Kernel → ℤ → ℕ → Result (Option DirEntry) Errno
-entry_after k fd position = listing.entry_after k.files fd position
+unfoldable pub listing : Kernel → ℤ → ℕ → Result (List DirEntry) Errno
+listing k fd position = listing_of.listing k.files fd position
+
+unfoldable pub position : Kernel → ℤ → Result ℕ Errno
+position k fd = listing_of.position k.files fd
+
+unfoldable pub truncate : Kernel → List ℕ → ℤ → Result ⊤ Errno × Kernel
+truncate k path wanted = on_files k (lengths.truncate k.files (time_of k.clocks.real) path wanted)
+
+unfoldable pub truncate_open : Kernel → ℤ → ℤ → Result ⊤ Errno × Kernel
+truncate_open k fd wanted = on_files k (lengths.truncate_open k.files (time_of k.clocks.real) fd wanted)
+
+unfoldable pub allocate : Kernel → ℤ → ℤ → ℤ → ℤ → Result ⊤ Errno × Kernel
+allocate k fd mode offset count = on_files k (lengths.allocate k.files fd mode offset count)
+
+unfoldable pub set_times : Kernel → ℤ → Option (List ℕ) → Option FileTimes → ℤ → Result ⊤ Errno × Kernel
+set_times k from path times flags = on_files k (retiming.set_times k.files (time_of k.clocks.real) from path times flags)
+
+unfoldable pub find_lock : Kernel → ℤ → Lock → Result Lock Errno
+find_lock k fd wanted = locks.find_lock k.files fd wanted
+
+unfoldable pub set_lock : Kernel → ℤ → Lock → Result ⊤ Errno × Kernel
+set_lock k fd wanted = on_files k (locks.set_lock k.files fd wanted)
 
 unfoldable pub change_dir : Kernel → List ℕ → Result ⊤ Errno × Kernel
 change_dir k path = on_files k (working.change_directory k.files (negsuc 99) path)
@@ -133,6 +167,9 @@ image_file k path inode size = on_files k (image.image_file k.files path inode s
 
 unfoldable pub image_bytes : Kernel → List ℕ → ℕ → List ℕ → Result ⊤ Errno × Kernel
 image_bytes k path offset bytes = on_files k (image.image_bytes k.files path offset bytes)
+
+unfoldable pub image_lock : Kernel → List ℕ → Bool → ℕ → ℕ → ℕ → Result ⊤ Errno × Kernel
+image_lock k path write start count pid = on_files k (locks.image_lock k.files path write start count pid)
 
 abbrev pub process_of : Identity → Process
 process_of i = record { pid = i.pid; uid = i.uid; gid = i.gid; privileged = i.privileged; usage = i.usage }

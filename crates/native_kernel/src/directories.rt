@@ -1,12 +1,13 @@
 //! The calls of the kernel that make, remove, rename and list the names in directories: each is its part's call on that
 //! part of the state.
 
-ghost use Rattle.std.specs.Prelude.{◌≡◌};
-ghost use Rattle.kernel_values.specs.Outcome.{Gives, GivesAlways, GivesTold};
-ghost use Rattle.native_kernel.specs.Operations.{entry_after, make_dir, remove, rename_path};
+ghost use Rattle.std.specs.Prelude.{◌≡◌, ◌<◌, IfOk, IfSome};
+ghost use Rattle.kernel_values.specs.Outcome.{Gives, GivesAlways, Tells};
+ghost use Rattle.file_store.specs.Listing.{TellsEntry};
+ghost use Rattle.native_kernel.specs.Operations.{listing, make_dir, position, remove, rename_path};
 
 use crate::state::Kernel;
-use kernel_values::{Answer, DirEntry, TimeSpec};
+use kernel_values::{Answer, DirEntry, Errno, TimeSpec};
 use std::alloc::Global;
 
 impl Kernel {
@@ -44,10 +45,19 @@ impl Kernel {
 
     /// The first entry of a directory at a greater position: `.` at 1, `..` at 2, then the names in the order of their
     /// making. None where no entry has a greater position. EBADF; ENOTDIR.
-    #[tactic(auto, unfolding(crate::specs::Operations::entry_after))]
+    #[tactic(auto, unfolding(crate::specs::Operations::listing))]
     pub fn entry_after(&self, alloc: Global, fd: i64, position: u64) -> Answer<Option<DirEntry>>
-        ensures { GivesTold (λ e. e) result (entry_after self.now fd position) }
+        ensures told { TellsEntry (listing self.now fd) position result }
+        ensures behind { IfOk result (λ found. IfSome found (λ e. position < e.position)) }
     {
         self.files.entry_after(alloc, fd, position)
+    }
+
+    /// Where the listing of an open directory goes on: the position of an open file. EBADF.
+    #[tactic(auto, unfolding(crate::specs::Operations::position))]
+    pub fn position(&self, fd: i64) -> Result<u64, Errno>
+        ensures { Tells result (position self.now fd) }
+    {
+        self.files.position(fd)
     }
 }

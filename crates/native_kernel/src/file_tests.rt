@@ -184,8 +184,10 @@ fn line(item: &StateItem) -> (&'static str, u64) {
         StateItem::Node { inode, .. } => ("node", *inode),
         StateItem::Name { position, .. } => ("name", *position),
         StateItem::Bytes { inode, .. } => ("bytes", *inode),
+        StateItem::Lock { first, .. } => ("lock", *first),
         StateItem::Descriptor { number, .. } => ("fd", *number),
         StateItem::OpenFile { serial, .. } => ("open", *serial),
+        StateItem::Pipe { inode, .. } => ("pipe", *inode),
     }
 }
 

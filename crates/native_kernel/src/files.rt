@@ -190,10 +190,9 @@ impl Kernel {
         self.files.image_directory(alloc, path, inode)
     }
 
-    /// Makes a file of zeros of the image. What refuses the path.
+    /// Makes a file of zeros of the image. EFBIG above 2^40 bytes; what refuses the path.
     #[tactic(auto, unfolding(crate::specs::Operations::image_file))]
     pub fn image_file(&mut self, alloc: Global, path: &[u8], inode: u64, size: u64) -> Answer<()>
-        requires { size ≤ 2 ^ 40 }
         ensures { Gives (λ _. tt) result self.new (image_file self.old path.now inode size) }
     {
         self.files.image_file(alloc, path, inode, size)

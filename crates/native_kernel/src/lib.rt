@@ -8,8 +8,11 @@ mod fresh;
 mod identity;
 mod items;
 mod kernel;
+mod lengths;
 mod limits;
+mod locks;
 mod state;
+mod status;
 
 pub use clocks::{CLOCK_END, CLOCK_MONOTONIC, CLOCK_REALTIME, ClockId};
 pub use file_store::Place;

@@ -13,7 +13,7 @@ use Rattle.kernel_values.specs.declared.process_end.End.{End}
 use Rattle.native_kernel.specs.declared.state.Identity.{Identity}
 use Rattle.native_kernel.specs.declared.state.Kernel.{Kernel}
 use Rattle.native_kernel.specs.Usages.{nothing_used}
-use Rattle.native_kernel.specs.Operations.{advanced, image_bytes, image_directory, image_file, with_clocks, with_process}
+use Rattle.native_kernel.specs.Operations.{advanced, image_bytes, image_directory, image_file, image_lock, with_clocks, with_process}
 use Rattle.call_tables.specs.declared.find.Row.{Row}
 use Rattle.call_tables.specs.Rows.{row}
 use Rattle.call_tables.specs.Names.{name}
@@ -116,8 +116,12 @@ set_file m path inode size = with_kernel m (image_file m.world.kernel path inode
 unfoldable pub set_bytes : Machine → List ℕ → ℕ → List ℕ → Machine
 set_bytes m path offset bytes = with_kernel m (image_bytes m.world.kernel path offset bytes).1
 
+-- a lock of another process on a file of the image
+unfoldable pub set_lock : Machine → List ℕ → Bool → ℕ → ℕ → ℕ → Machine
+set_lock m path write start count pid = with_kernel m (image_lock m.world.kernel path write start count pid).1
+
 -- What a record does. The reader tells a page that can't be mapped, a poke outside the pages,
--- and a name or bytes that a path can't have, as a bad line.
+-- and a name, bytes or a lock that a path can't have, as a bad line.
 abbrev pub applied : Machine → Line → Done
 applied m (lines.Header abi) = silent (set_kind m abi)
 applied m (lines.Clock real monotonic) = silent (set_clock m real monotonic)
@@ -128,6 +132,7 @@ applied m (lines.Page at writable bytes) = silent (set_page m at writable bytes)
 applied m (lines.Dir path inode) = silent (set_directory m path inode)
 applied m (lines.File path inode size) = silent (set_file m path inode size)
 applied m (lines.Bytes path offset bytes) = silent (set_bytes m path offset bytes)
+applied m (lines.Lock path write start count pid) = silent (set_lock m path write start count pid)
 applied m (lines.Poke at bytes) = silent (poke m at bytes)
 applied m (lines.Call registers) = call m registers
 applied m (lines.Advance nanos) = silent (advance m nanos)

@@ -43,27 +43,44 @@ unfoldable pub time_text : TimeSpec → List ℕ
 time_text t = codes " " ++ hex_text (cast_unsigned w64 t.seconds) ++ codes "." ++ hex_text (cast_unsigned w64 t.nanos)
 
 -- a file or a directory: its letter, its size, its mode and owner, and when it was accessed, modified and changed
-unfoldable pub kind_letter : OpenKind → List ℕ
-kind_letter kinds.File = codes " f"
-kind_letter kinds.Directory = codes " d"
+unfoldable pub node_letter : Bool → List ℕ
+node_letter is_directory = if is_directory then codes " d" else codes " f"
 
-unfoldable pub node_head : ℕ → OpenKind → List ℕ
-node_head inode kind = codes "node" ++ numbers_text (inode ∷ []) ++ kind_letter kind
+unfoldable pub node_head : ℕ → Bool → List ℕ
+node_head inode is_directory = codes "node" ++ numbers_text (inode ∷ []) ++ node_letter is_directory
 
 unfoldable pub times_text : Attributes → List ℕ
 times_text a = time_text a.accessed ++ time_text a.modified ++ time_text a.changed
 
-unfoldable pub node_text : ℕ → OpenKind → ℕ → Attributes → List ℕ
-node_text inode kind size a = node_head inode kind ++ numbers_text (size ∷ a.mode ∷ a.uid ∷ a.gid ∷ []) ++ times_text a ++ 10 ∷ []
+unfoldable pub node_text : ℕ → Bool → ℕ → Attributes → List ℕ
+node_text inode is_directory size a = node_head inode is_directory ++ numbers_text (size ∷ a.mode ∷ a.uid ∷ a.gid ∷ []) ++ times_text a ++ 10 ∷ []
 
 -- an open file, with its flags as F_GETFL tells them to the process
 unfoldable pub kind_word : OpenKind → List ℕ
 kind_word kinds.File = codes " file"
 kind_word kinds.Directory = codes " dir"
+kind_word kinds.PipeRead = codes " pr"
+kind_word kinds.PipeWrite = codes " pw"
 
 unfoldable pub open_text : ℕ → OpenKind → ℕ → ℕ → ℕ → List ℕ
 open_text serial kind flags position inode =
     codes "open" ++ numbers_text (serial ∷ []) ++ kind_word kind ++ numbers_text (flags ∷ position ∷ inode ∷ []) ++ 10 ∷ []
+
+-- the bytes that wait in a pipe, `-` for none
+unfoldable pub waiting_text : List ℕ → List ℕ
+waiting_text [] = codes "-"
+waiting_text (b ∷ bs) = encode_lower (b ∷ bs)
+
+unfoldable pub pipe_text : ℕ → List ℕ → List ℕ
+pipe_text inode bytes = codes "pipe" ++ numbers_text (inode ∷ []) ++ codes " " ++ waiting_text bytes ++ 10 ∷ []
+
+-- a lock of the process: of readers or of writers, its first and its last byte
+unfoldable pub lock_letter : Bool → List ℕ
+lock_letter write = if write then codes " w" else codes " r"
+
+unfoldable pub lock_text : ℕ → Bool → ℕ → ℕ → List ℕ
+lock_text inode write first last =
+    codes "lock" ++ numbers_text (inode ∷ []) ++ lock_letter write ++ numbers_text (first ∷ last ∷ []) ++ 10 ∷ []
 
 -- 1 or 0
 abbrev pub mark : Bool → ℕ
@@ -75,11 +92,13 @@ item_text abi (item.Clock real monotonic) = numbers_line (codes "clock") (real �
 item_text abi (item.Ended end) = numbers_line (ended_word end) (ended_number end ∷ [])
 item_text abi (item.Limit resource l) = numbers_line (codes "limit") (resource ∷ l.soft ∷ l.hard ∷ [])
 item_text abi (item.WorkingDirectory inode) = numbers_line (codes "cwd") (inode ∷ [])
-item_text abi (item.Node inode kind size a) = node_text inode kind size a
+item_text abi (item.Node inode is_directory size a) = node_text inode is_directory size a
 item_text abi (item.Name directory position child name) = bytes_line (codes "name") (directory ∷ position ∷ child ∷ []) name
 item_text abi (item.Bytes inode offset bytes) = bytes_line (codes "bytes") (inode ∷ offset ∷ []) bytes
+item_text abi (item.Lock inode write first last) = lock_text inode write first last
 item_text abi (item.Descriptor number serial cloexec) = numbers_line (codes "fd") (number ∷ serial ∷ mark cloexec ∷ [])
 item_text abi (item.OpenFile serial kind flags position inode) = open_text serial kind (to_word abi flags) position inode
+item_text abi (item.Pipe inode bytes) = pipe_text inode bytes
 
 -- whether an item stands above the line of the peak
 unfoldable pub is_front : StateItem → Bool
@@ -87,11 +106,13 @@ is_front (item.Clock real monotonic) = true
 is_front (item.Ended end) = true
 is_front (item.Limit resource l) = false
 is_front (item.WorkingDirectory inode) = false
-is_front (item.Node inode kind size a) = false
+is_front (item.Node inode is_directory size a) = false
 is_front (item.Name directory position child name) = false
 is_front (item.Bytes inode offset bytes) = false
+is_front (item.Lock inode write first last) = false
 is_front (item.Descriptor number serial cloexec) = false
 is_front (item.OpenFile serial kind flags position inode) = false
+is_front (item.Pipe inode bytes) = false
 
 -- nothing lies between the calls yet
 unfoldable pub peak_line : List ℕ

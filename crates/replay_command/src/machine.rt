@@ -35,7 +35,7 @@ pub struct Machine {
 
 impl Machine {
     ghost use Rattle.script_reader.specs.Grammar.{line_of, IsInRange};
-    ghost use Rattle.replay_command.specs.Machine.{start, call, silent, poke, advance, set_bytes, set_clock, set_directory, set_file, set_kind, set_who, set_usage, set_restorer, set_page, applied, Did};
+    ghost use Rattle.replay_command.specs.Machine.{Did, advance, applied, call, poke, set_bytes, set_clock, set_directory, set_file, set_kind, set_lock, set_page, set_restorer, set_usage, set_who, silent, start};
 
     /// At the start of a script.
     #[tactic(auto, unfolding(crate::specs::Machine::start))]
@@ -149,7 +149,6 @@ impl Machine {
         inode: u64,
         size: u64,
     ) -> Result<(), OutOfMemory>
-        requires { size ≤ 2 ^ 40 }
         ensures machine { OnOk result (self.new ≡ set_file self.old path.now inode size) }
         ensures calls { self.new.calls ≡ self.old.calls }
     {
@@ -172,6 +171,29 @@ impl Machine {
         ensures calls { self.new.calls ≡ self.old.calls }
     {
         match self.world.kernel.image_bytes(alloc, path, offset, bytes) {
+            Err(KernelFault::OutOfMemory) => Err(OutOfMemory),
+            Ok(()) | Err(KernelFault::Errno(_)) => Ok(()),
+        }
+    }
+
+    /// A lock of another process on a file of the image.
+    #[tactic(auto, unfolding(crate::specs::Machine::set_lock))]
+    fn set_lock(
+        &mut self,
+        path: &[u8],
+        write: bool,
+        start: u64,
+        length: u64,
+        pid: u32,
+    ) -> Result<(), OutOfMemory>
+        ensures machine { OnOk result (self.new ≡ set_lock self.old path.now write start length pid) }
+        ensures calls { self.new.calls ≡ self.old.calls }
+    {
+        let locked = self
+            .world
+            .kernel
+            .image_lock(path, write, start, length, pid);
+        match locked {
             Err(KernelFault::OutOfMemory) => Err(OutOfMemory),
             Ok(()) | Err(KernelFault::Errno(_)) => Ok(()),
         }
@@ -253,6 +275,13 @@ impl Machine {
                 offset,
                 bytes,
             } => self.set_bytes(alloc, path.as_slice(), offset, bytes.as_slice())?,
+            Record::Lock {
+                path,
+                write,
+                start,
+                length,
+                pid,
+            } => self.set_lock(path.as_slice(), write, start, length, pid)?,
             Record::Poke { at, bytes } => self.poke(at, &bytes),
             Record::Call { registers } => self.call(alloc, out, &registers)?,
             Record::Advance { nanos } => self.advance(nanos),

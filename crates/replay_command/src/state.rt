@@ -3,7 +3,7 @@
 ghost use Rattle.std.specs.Prelude.{◌≡◌, ◌∷◌, [], ◌++◌, ◌||◌, not, false, OnOk, IfOk};
 ghost use Rattle.kernel_values.specs.OpenFlags.{to_word};
 ghost use Rattle.native_kernel.specs.Items.{left};
-ghost use Rattle.replay_command.specs.StateText.{bytes_line, ended_number, ended_word, is_front, item_text, items_text, kind_letter, kind_word, node_head, node_text, numbers_line, numbers_text, open_text, peak_before, peak_line, state_head, state_text, time_text, times_text};
+ghost use Rattle.replay_command.specs.StateText.{bytes_line, ended_number, ended_word, is_front, item_text, items_text, kind_word, lock_letter, lock_text, node_head, node_letter, node_text, numbers_line, numbers_text, open_text, peak_before, peak_line, pipe_text, state_head, state_text, time_text, times_text, waiting_text};
 
 use crate::text::{put, put_bytes, put_hex};
 use kernel_values::{AbiKind, Attributes, End, OpenKind, OutOfMemory, StateItem, TimeSpec};
@@ -83,14 +83,11 @@ fn put_time(alloc: Global, out: &mut Vec<u8>, time: TimeSpec) -> Result<(), OutO
     put_hex(alloc, out, time.nanos.cast_unsigned())
 }
 
-#[tactic(auto, unfolding(crate::specs::StateText::kind_letter))]
-fn kind_letter(kind: OpenKind) -> &'static [u8]
-    ensures { result.now ≡ kind_letter kind }
+#[tactic(auto, unfolding(crate::specs::StateText::node_letter))]
+fn node_letter(is_directory: bool) -> &'static [u8]
+    ensures { result.now ≡ node_letter is_directory }
 {
-    match kind {
-        OpenKind::File => b" f",
-        OpenKind::Directory => b" d",
-    }
+    if is_directory { b" d" } else { b" f" }
 }
 
 /// The inode of a file or a directory, and which of them it is.
@@ -99,13 +96,13 @@ fn put_node_head(
     alloc: Global,
     out: &mut Vec<u8>,
     inode: u64,
-    kind: OpenKind,
+    is_directory: bool,
 ) -> Result<(), OutOfMemory>
-    ensures { OnOk result (out.new.items ≡ out.old.items ++ node_head inode kind) }
+    ensures { OnOk result (out.new.items ≡ out.old.items ++ node_head inode is_directory) }
 {
     put(out, b"node")?;
     put_numbers(alloc, out, &[inode])?;
-    put(out, kind_letter(kind))
+    put(out, node_letter(is_directory))
 }
 
 /// When it was accessed, modified and changed.
@@ -124,11 +121,11 @@ fn put_node(
     alloc: Global,
     out: &mut Vec<u8>,
     inode: u64,
-    kind: OpenKind,
+    is_directory: bool,
     size: u64,
     attributes: Attributes,
 ) -> Result<(), OutOfMemory>
-    ensures { OnOk result (out.new.items ≡ out.old.items ++ node_text inode kind size attributes) }
+    ensures { OnOk result (out.new.items ≡ out.old.items ++ node_text inode is_directory size attributes) }
 {
     let owner = [
         size,
@@ -136,7 +133,7 @@ fn put_node(
         u64::from(attributes.uid),
         u64::from(attributes.gid),
     ];
-    put_node_head(alloc, out, inode, kind)?;
+    put_node_head(alloc, out, inode, is_directory)?;
     put_numbers(alloc, out, &owner)?;
     put_times(alloc, out, attributes)?;
     put(out, b"\n")
@@ -149,6 +146,8 @@ fn kind_word(kind: OpenKind) -> &'static [u8]
     match kind {
         OpenKind::File => b" file",
         OpenKind::Directory => b" dir",
+        OpenKind::PipeRead => b" pr",
+        OpenKind::PipeWrite => b" pw",
     }
 }
 
@@ -169,6 +168,55 @@ fn put_open(
     put_numbers(alloc, out, &[serial])?;
     put(out, kind_word(kind))?;
     put_numbers(alloc, out, &[u64::from(flags), position, inode])?;
+    put(out, b"\n")
+}
+
+#[tactic(auto, unfolding(crate::specs::StateText::lock_letter))]
+fn lock_letter(write: bool) -> &'static [u8]
+    ensures { result.now ≡ lock_letter write }
+{
+    if write { b" w" } else { b" r" }
+}
+
+/// A lock of the process.
+#[tactic(auto, unfolding(crate::specs::StateText::lock_text))]
+fn put_lock(
+    alloc: Global,
+    out: &mut Vec<u8>,
+    inode: u64,
+    write: bool,
+    first: u64,
+    last: u64,
+) -> Result<(), OutOfMemory>
+    ensures { OnOk result (out.new.items ≡ out.old.items ++ lock_text inode write first last) }
+{
+    put(out, b"lock")?;
+    put_numbers(alloc, out, &[inode])?;
+    put(out, lock_letter(write))?;
+    put_numbers(alloc, out, &[first, last])?;
+    put(out, b"\n")
+}
+
+/// The bytes that wait in a pipe, `-` for none.
+#[tactic(auto, unfolding(crate::specs::StateText::waiting_text))]
+fn put_waiting(alloc: Global, out: &mut Vec<u8>, bytes: &[u8]) -> Result<(), OutOfMemory>
+    ensures { OnOk result (out.new.items ≡ out.old.items ++ waiting_text bytes.now) }
+{
+    if bytes.is_empty() {
+        return put(out, b"-");
+    }
+    put_bytes(alloc, out, bytes)
+}
+
+/// A pipe.
+#[tactic(auto, unfolding(crate::specs::StateText::pipe_text))]
+fn put_pipe(alloc: Global, out: &mut Vec<u8>, inode: u64, bytes: &[u8]) -> Result<(), OutOfMemory>
+    ensures { OnOk result (out.new.items ≡ out.old.items ++ pipe_text inode bytes.now) }
+{
+    put(out, b"pipe")?;
+    put_numbers(alloc, out, &[inode])?;
+    put(out, b" ")?;
+    put_waiting(alloc, out, bytes)?;
     put(out, b"\n")
 }
 
@@ -194,10 +242,10 @@ fn put_item(
         StateItem::WorkingDirectory { inode } => put_line(alloc, out, b"cwd", &[inode]),
         StateItem::Node {
             inode,
-            kind,
+            is_directory,
             size,
             attributes,
-        } => put_node(alloc, out, inode, kind, size, attributes),
+        } => put_node(alloc, out, inode, is_directory, size, attributes),
         StateItem::Name {
             directory,
             position,
@@ -215,6 +263,12 @@ fn put_item(
             offset,
             bytes,
         } => put_bytes_line(alloc, out, b"bytes", &[inode, offset], bytes.as_slice()),
+        StateItem::Lock {
+            inode,
+            write,
+            first,
+            last,
+        } => put_lock(alloc, out, inode, write, first, last),
         StateItem::Descriptor {
             number,
             serial,
@@ -235,6 +289,7 @@ fn put_item(
             position,
             inode,
         ),
+        StateItem::Pipe { inode, bytes } => put_pipe(alloc, out, inode, bytes.as_slice()),
     }
 }
 
@@ -250,8 +305,10 @@ fn is_front(item: &StateItem) -> bool
         | StateItem::Node { .. }
         | StateItem::Name { .. }
         | StateItem::Bytes { .. }
+        | StateItem::Lock { .. }
         | StateItem::Descriptor { .. }
-        | StateItem::OpenFile { .. } => false,
+        | StateItem::OpenFile { .. }
+        | StateItem::Pipe { .. } => false,
     }
 }
 

@@ -13,7 +13,7 @@ use Rattle.script_reader.specs.declared.grammar.Keyword.{Keyword}
 use Rattle.script_reader.specs.declared.grammar.Keyword.TheVariants as keywords
 use Rattle.script_reader.specs.declared.record.Record.{Record}
 use Rattle.script_reader.specs.declared.record.Record.TheVariants as records
-use Rattle.script_reader.specs.Fields.{◌>>=◌, same, first_field, after_field, number, word, clock, count, fields_in, data_of, path_of, inode_of, size_of}
+use Rattle.script_reader.specs.Fields.{◌>>=◌, same, first_field, after_field, number, word, clock, count, fields_in, data_of, path_of, inode_of, size_of, number_below}
 
 -- what a line says
 pub data Line : Type 0 where
@@ -26,6 +26,7 @@ pub data Line : Type 0 where
   Dir : (path : List ℕ) (inode : ℕ) → Line
   File : (path : List ℕ) (inode size : ℕ) → Line
   Bytes : (path : List ℕ) (offset : ℕ) (bytes : List ℕ) → Line
+  Lock : (path : List ℕ) (write : Bool) (start count pid : ℕ) → Line
   Poke : (at : ℕ) (bytes : List ℕ) → Line
   Call : (registers : Registers) → Line
   Advance : (nanos : ℕ) → Line
@@ -42,6 +43,7 @@ line_of (records.Page at writable bytes) = Page at writable bytes.items
 line_of (records.Dir path inode) = Dir path inode
 line_of (records.File path inode size) = File path inode size
 line_of (records.Bytes path offset bytes) = Bytes path offset bytes
+line_of (records.Lock path write start count pid) = Lock path write start count pid
 line_of (records.Poke at bytes) = Poke at bytes.items
 line_of (records.Call registers) = Call registers
 line_of (records.Advance nanos) = Advance nanos
@@ -128,6 +130,32 @@ bytes_line rest =
     data_of third >>= λ bytes.
     Some (Bytes path offset bytes)
 
+-- whether a lock is one of writers
+abbrev pub lock_kind_of : List ℕ → Option Bool
+lock_kind_of cs = if same cs (codes "r") then Some false else (if same cs (codes "w") then Some true else None)
+
+-- the process that has a lock
+abbrev pub holder_of : List ℕ → Option ℕ
+holder_of cs = number_below (2 ^ 31) cs
+
+-- no lock reaches past byte 2^63 - 1
+abbrev pub lock_of : List ℕ → Bool → ℕ → ℕ → ℕ → Option Line
+lock_of path write start count pid = if nat_le (start + count) (2 ^ 63) then Some (Lock path write start count pid) else None
+
+-- a path, a kind, a first byte, a length and a process
+unfoldable pub lock_line : List ℕ → Option Line
+lock_line rest =
+    after_field rest >>= λ second.
+    after_field second >>= λ third.
+    after_field third >>= λ fourth.
+    after_field fourth >>= λ fifth.
+    lock_kind_of (first_field second) >>= λ write.
+    number (first_field third) >>= λ start.
+    number (first_field fourth) >>= λ count.
+    holder_of fifth >>= λ pid.
+    path_of (first_field rest) >>= λ path.
+    lock_of path write start count pid
+
 -- an address and bytes
 unfoldable pub poke_line : List ℕ → Option Line
 poke_line rest =
@@ -162,12 +190,13 @@ keyword_of name =
     else (if same name (codes "dir") then Some keywords.Dir
     else (if same name (codes "file") then Some keywords.File
     else (if same name (codes "data") then Some keywords.Bytes
+    else (if same name (codes "lock") then Some keywords.Lock
     else (if same name (codes "clock") then Some keywords.Clock
     else (if same name (codes "who") then Some keywords.Who
     else (if same name (codes "usage") then Some keywords.Usage
     else (if same name (codes "restorer") then Some keywords.Restorer
     else (if same name (codes "show") then Some keywords.Show
-    else None)))))))))))
+    else None))))))))))))
 
 -- how many fields a line has, its first one among them
 abbrev pub fields_of : AbiKind → Keyword → ℕ
@@ -179,6 +208,7 @@ fields_of kind keywords.Page = 4
 fields_of kind keywords.Dir = 3
 fields_of kind keywords.File = 4
 fields_of kind keywords.Bytes = 4
+fields_of kind keywords.Lock = 6
 fields_of kind keywords.Poke = 3
 fields_of abi.Ia32 keywords.Call = 11
 fields_of abi.ArmEabi keywords.Call = 18
@@ -199,6 +229,7 @@ line_about kind keywords.Page rest = page_line rest
 line_about kind keywords.Dir rest = dir_line rest
 line_about kind keywords.File rest = file_line rest
 line_about kind keywords.Bytes rest = bytes_line rest
+line_about kind keywords.Lock rest = lock_line rest
 line_about kind keywords.Poke rest = poke_line rest
 line_about kind keywords.Call rest = call_line kind rest
 line_about kind keywords.Advance rest = advance_line rest
@@ -232,6 +263,7 @@ IsInRange (Page at writable bytes) = (at % 4096 ≡ 0) × (length bytes ≤ 4096
 IsInRange (Dir path inode) = ⊤
 IsInRange (File path inode size) = size ≤ 2 ^ 40
 IsInRange (Bytes path offset bytes) = ⊤
+IsInRange (Lock path write start count pid) = ⊤
 IsInRange (Poke at bytes) = ⊤
 IsInRange (Call registers) = ⊤
 IsInRange (Advance nanos) = nanos < 2 ^ 62

@@ -8,7 +8,7 @@ use Rattle.script_reader.specs.declared.fault.LineCause.{LineCause}
 use Rattle.script_reader.specs.declared.fault.LineCause.TheVariants as causes
 use Rattle.script_reader.specs.declared.record.Record.{Record}
 use Rattle.script_reader.specs.declared.seen.Seen.{Seen}
-use Rattle.script_reader.specs.Grammar.{Line, Header, Clock, Who, Usage, Restorer, Page, Dir, File, Bytes, Poke, Call, Advance, Show, abi_of, read_line, line_of}
+use Rattle.script_reader.specs.Grammar.{Line, Header, Clock, Who, Usage, Restorer, Page, Dir, File, Bytes, Lock, Poke, Call, Advance, Show, abi_of, read_line, line_of}
 
 abbrev pub new_seen : Seen
 new_seen = record { lines = 0; abi = None; clock = false; who = false; usage = false; restorer = false; begun = false; pages = record { keys = [] }; files = fresh_files }
@@ -44,6 +44,7 @@ misplaced s (Page at writable bytes) = image_fault s (has_page s.pages (at / 409
 misplaced s (Dir path inode) = image_fault s (not (is_free_name s.files path inode))
 misplaced s (File path inode size) = image_fault s (not (is_free_name s.files path inode))
 misplaced s (Bytes path offset bytes) = image_fault s (not (has_bytes s.files path offset (length bytes)))
+misplaced s (Lock path write start count pid) = image_fault s (not (has_bytes s.files path 0 0))
 misplaced s (Poke at bytes) = if is_covered s.pages at (length bytes) then None else Some causes.Image
 misplaced s (Call registers) = None
 misplaced s (Advance nanos) = None
@@ -60,6 +61,7 @@ seen_with s (Page at writable bytes) = record s { pages = with_page s.pages (at 
 seen_with s (Dir path inode) = record s { files = (image_directory s.files path inode).1 }
 seen_with s (File path inode size) = record s { files = (image_file s.files path inode size).1 }
 seen_with s (Bytes path offset bytes) = s
+seen_with s (Lock path write start count pid) = s
 seen_with s (Poke at bytes) = s
 seen_with s (Call registers) = record s { begun = true }
 seen_with s (Advance nanos) = record s { begun = true }

@@ -21,7 +21,7 @@ pub enum LineCause {
     Order,
     /// A second `clock`, `who`, `usage` or `restorer`, a page that is mapped already or is one too many, or a poke
     /// outside the pages mapped above it. A directory or a file with inode 2 or one of an earlier line, at a path that
-    /// is there already, or whose parent isn't there or is a file. Bytes of what is no file, or past its size.
+    /// is there already, or whose parent isn't there or is a file. Bytes of what is no file, or past its size. A lock of what is no file.
     Image,
 }
 

@@ -3,7 +3,7 @@
 
 ghost use Rattle.std.specs.Prelude.{◌≡◌, ◌^◌, ◌<◌, ◌≤◌, [], length, IfOk, IfSome};
 ghost use Rattle.std.specs.Option.{option_map, unwrap_or};
-ghost use Rattle.script_reader.specs.Grammar.{line_of, IsInRange, abi_of, pid_of, privilege_of, rights_of, clock_line, who_line, usage_line, restorer_line, page_line, dir_line, file_line, bytes_line, poke_line, registers_in, call_line, advance_line, keyword_of, fields_of, field_count, line_about, said_by, read_line};
+ghost use Rattle.script_reader.specs.Grammar.{line_of, IsInRange, abi_of, pid_of, privilege_of, rights_of, clock_line, who_line, usage_line, restorer_line, page_line, dir_line, file_line, bytes_line, holder_of, lock_kind_of, lock_line, poke_line, registers_in, call_line, advance_line, keyword_of, fields_of, field_count, line_about, said_by, read_line};
 
 use crate::fault::LineCause;
 use crate::fields::{
@@ -26,6 +26,7 @@ pub enum Keyword {
     Dir,
     File,
     Bytes,
+    Lock,
     Poke,
     Call,
     Advance,
@@ -263,6 +264,77 @@ fn bytes_of(alloc: Global, rest: &[u8]) -> Result<Option<Record>, OutOfMemory>
     }))
 }
 
+/// Whether a lock is one of writers.
+fn lock_kind_in(field: &[u8]) -> Option<bool>
+    ensures { result ≡ lock_kind_of field.now }
+{
+    if is_same(field, b"r") {
+        return Some(false);
+    }
+    if is_same(field, b"w") {
+        return Some(true);
+    }
+    None
+}
+
+/// The process that has a lock, below 2^31.
+fn holder_in(field: &[u8]) -> Option<u32>
+    ensures { result ≡ holder_of field.now }
+{
+    let Some(n) = number_in(field) else {
+        return None;
+    };
+    if n < 1 << 31 { Some(n as u32) } else { None }
+}
+
+#[tactic(auto, unfolding(crate::specs::Grammar::lock_line))]
+fn lock_of(alloc: Global, rest: &[u8]) -> Result<Option<Record>, OutOfMemory>
+    ensures line { IfOk result (λ r. option_map line_of r ≡ lock_line rest.now) }
+    ensures page { IfOk result (λ r. IfSome r (λ x. IsInRange (line_of x))) }
+{
+    let (first, after) = cut_field(rest);
+    let Some(second) = after else {
+        return Ok(None);
+    };
+    let (second, after) = cut_field(second);
+    let Some(third) = after else {
+        return Ok(None);
+    };
+    let (third, after) = cut_field(third);
+    let Some(fourth) = after else {
+        return Ok(None);
+    };
+    let (fourth, after) = cut_field(fourth);
+    let Some(fifth) = after else {
+        return Ok(None);
+    };
+    let Some(write) = lock_kind_in(second) else {
+        return Ok(None);
+    };
+    let Some(start) = number_in(third) else {
+        return Ok(None);
+    };
+    let Some(length) = number_in(fourth) else {
+        return Ok(None);
+    };
+    let Some(pid) = holder_in(fifth) else {
+        return Ok(None);
+    };
+    let Some(path) = path_in(alloc, first)? else {
+        return Ok(None);
+    };
+    if u128::from(start) + u128::from(length) > 1 << 63 {
+        return Ok(None);
+    }
+    Ok(Some(Record::Lock {
+        path,
+        write,
+        start,
+        length,
+        pid,
+    }))
+}
+
 #[tactic(auto, unfolding(crate::specs::Grammar::poke_line))]
 fn poke_of(alloc: Global, rest: &[u8]) -> Result<Option<Record>, OutOfMemory>
     ensures line { IfOk result (λ r. option_map line_of r ≡ poke_line rest.now) }
@@ -339,6 +411,9 @@ fn keyword_in(name: &[u8]) -> Option<Keyword>
     if is_same(name, b"data") {
         return Some(Keyword::Bytes);
     }
+    if is_same(name, b"lock") {
+        return Some(Keyword::Lock);
+    }
     if is_same(name, b"clock") {
         return Some(Keyword::Clock);
     }
@@ -370,6 +445,7 @@ fn fields_of(abi: AbiKind, keyword: Keyword) -> usize
         Keyword::Dir => 3,
         Keyword::File => 4,
         Keyword::Bytes => 4,
+        Keyword::Lock => 6,
         Keyword::Poke => 3,
         Keyword::Call => match abi {
             AbiKind::Ia32 => 11,
@@ -400,6 +476,7 @@ fn record_about(
         Keyword::Dir => dir_of(alloc, rest),
         Keyword::File => file_of(alloc, rest),
         Keyword::Bytes => bytes_of(alloc, rest),
+        Keyword::Lock => lock_of(alloc, rest),
         Keyword::Poke => poke_of(alloc, rest),
         Keyword::Call => Ok(call_of(abi, rest)),
         Keyword::Advance => Ok(advance_of(rest)),

@@ -51,6 +51,16 @@ pub enum Record {
         offset: u64,
         bytes: ByteList,
     },
+    /// A lock that another process has on a file of the image: of writers or of readers, from its first byte on. Length 0 has
+    /// no end; start and length together are at most 2^63.
+    Lock {
+        path: PathText,
+        write: bool,
+        start: u64,
+        length: u64,
+        /// The process, below 2^31.
+        pid: u32,
+    },
     /// Bytes in mapped pages, whatever their rights.
     Poke {
         at: u32,

@@ -163,6 +163,10 @@ impl Seen {
                     .has_bytes(path.as_slice(), *offset, bytes.len() as u64);
                 self.image_fault(!there)
             }
+            Record::Lock { path, .. } => {
+                let there = self.files.has_bytes(path.as_slice(), 0, 0);
+                self.image_fault(!there)
+            }
             Record::Poke { at, bytes } => {
                 if self.covers(*at, bytes.len()) {
                     None
@@ -223,7 +227,7 @@ impl Seen {
             Record::File { path, inode, size } => {
                 self.see_file(alloc, path.as_slice(), *inode, *size)?;
             }
-            Record::Bytes { .. } | Record::Poke { .. } => {}
+            Record::Bytes { .. } | Record::Lock { .. } | Record::Poke { .. } => {}
             Record::Call { .. } | Record::Advance { .. } | Record::Show => self.begun = true,
         }
         Ok(())

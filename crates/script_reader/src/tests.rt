@@ -439,3 +439,38 @@ fn records_of_files_say_what_their_lines_say(rt: HostRuntime) -> Result<(), Fail
     assert_eq!(rt; (inode, size), (31, 32));
     Ok(())
 }
+
+#[test]
+fn a_lock_stands_on_a_file_above_it(rt: HostRuntime) -> Result<(), Fail> {
+    ends(
+        &rt,
+        rt.alloc(),
+        &[
+            (
+                b"abi ia32 1\nfile /f 7 0\nlock /f w 8000000000000000 0 7fffffff\n",
+                3,
+                None,
+            ),
+            (
+                b"abi ia32 1\nlock /f w 0 0 1\n",
+                1,
+                bad(2, LineCause::Image),
+            ),
+            (
+                b"abi ia32 1\nfile /f 7 0\nlock /f w 1 8000000000000000 1\n",
+                2,
+                bad(3, LineCause::Field),
+            ),
+            (
+                b"abi ia32 1\nfile /f 7 0\nlock /f r 0 0 80000000\n",
+                2,
+                bad(3, LineCause::Field),
+            ),
+            (
+                b"abi ia32 1\nfile /f 7 0\nlock /f r 0 0\n",
+                2,
+                bad(3, LineCause::Count),
+            ),
+        ],
+    )
+}

@@ -1,5 +1,5 @@
 -- What calls fetch and store besides shapes: paths and data. A call opens none of the opaque words.
-use Rattle.std.specs.Prelude.{ℕ, ◌%◌, ◌^◌, min, List, length, Result, Ok, Err, if◌then◌else◌, ⊤}
+use Rattle.std.specs.Prelude.{ℕ, ◌%◌, ◌^◌, ◌==◌, min, List, length, Option, None, Result, Ok, Err, if◌then◌else◌, ⊤}
 use Rattle.kernel_values.specs.declared.errno.Errno.{Errno}
 use Rattle.kernel_values.specs.declared.errno.Errno.TheVariants.{BadAddress, NameTooLong}
 use Rattle.user_memory.specs.Memory.{bytes_at, is_writable, with_bytes}
@@ -7,6 +7,7 @@ use Rattle.user_memory.specs.Prefixes.{readable_prefix, text_at, writable_prefix
 use Rattle.user_memory.specs.declared.text.TextFault.{TextFault}
 use Rattle.user_memory.specs.declared.text.TextFault.TheVariants.{Fault, TooLong}
 use Rattle.served_calls.specs.Calls.{Memory, Delivery}
+use Rattle.served_calls.specs.Shapes.{found}
 
 -- a text as a path: EFAULT where it can't be read, ENAMETOOLONG where it is too long
 abbrev pub path_of : Result (List ℕ) TextFault → Result (List ℕ) Errno
@@ -17,6 +18,10 @@ path_of (Err TooLong) = Err NameTooLong
 -- the path at an address: a text of at most 4,096 bytes (PATH_MAX), its zero among them
 unfoldable pub path_at : Memory → ℕ → Result (List ℕ) Errno
 path_at m at = path_of (text_at m at 4096)
+
+-- the path at a pointer that may be absent
+abbrev pub optional_path_at : Memory → ℕ → Result (Option (List ℕ)) Errno
+optional_path_at m at = if at == 0 then Ok None else found (path_at m at)
 
 -- how many bytes one call moves at most: a count is cut at the last whole page below 2^31 (MAX_RW_COUNT)
 unfoldable pub transfer_count : ℕ → ℕ

@@ -1,8 +1,8 @@
 //! Paths and data in user memory, with the error numbers that a call answers.
 
-ghost use Rattle.std.specs.Prelude.{◌≡◌, ◌≤◌, IfOk};
+ghost use Rattle.std.specs.Prelude.{◌≡◌, ◌≤◌, IfOk, option_map};
 ghost use Rattle.kernel_values.specs.Outcome.{TellsAs};
-ghost use Rattle.served_calls.specs.Bytes.{data_at, low_word, path_at, room_at, stores_bytes, transfer_count};
+ghost use Rattle.served_calls.specs.Bytes.{data_at, low_word, optional_path_at, path_at, room_at, stores_bytes, transfer_count};
 ghost use Rattle.served_calls.specs.Calls.{Delivers};
 
 use kernel_values::{Errno, OutOfMemory};
@@ -30,6 +30,20 @@ pub fn fetch_path<'a>(
         Err(TextFault::Fault) => Err(Errno::BadAddress),
         Err(TextFault::TooLong) => Err(Errno::NameTooLong),
     }
+}
+
+/// The path at a pointer. None for the pointer 0. EFAULT and ENAMETOOLONG as `fetch_path` has them.
+pub fn fetch_optional_path<'a>(
+    memory: &UserMemory,
+    at: u32,
+    room: &'a mut [u8; PATH_MAX],
+) -> Result<Option<&'a [u8]>, Errno>
+    ensures { TellsAs (option_map (λ path. path.now)) result (optional_path_at memory.now at) }
+{
+    if at == 0 {
+        return Ok(None);
+    }
+    Ok(Some(fetch_path(memory, at, room)?))
 }
 
 /// How many of `count` bytes one call moves at most.

@@ -30,6 +30,25 @@ fn a_path_ends_at_its_zero(rt: HostRuntime) -> Result<(), Fail> {
 }
 
 #[test]
+fn no_path_is_read_at_address_0(rt: HostRuntime) -> Result<(), Fail> {
+    let memory = mapped(&rt).ok_or("memory")?;
+    let mut room = [1u8; PATH_MAX];
+    let path = fetch_optional_path(&memory, 0, &mut room)
+        .ok()
+        .ok_or("path")?;
+    assert!(rt; path.is_none());
+    let path = fetch_optional_path(&memory, 0x1000, &mut room)
+        .ok()
+        .ok_or("path")?;
+    assert_eq!(rt; path.map(|path| path.len()), Some(0));
+    assert_eq!(rt;
+        fetch_optional_path(&memory, 0x4000, &mut room).err(),
+        Some(Errno::BadAddress)
+    );
+    Ok(())
+}
+
+#[test]
 fn a_path_has_at_most_4095_bytes_and_its_zero(rt: HostRuntime) -> Result<(), Fail> {
     let memory = filled(&rt).ok_or("memory")?;
     let mut room = [1u8; PATH_MAX];

@@ -2,7 +2,8 @@
 use Rattle.std.specs.Prelude.{[], ◌∷◌, slice_index}
 use Rattle.std.specs.Int.{w64, cast_signed, cast_unsigned}
 use Rattle.layout_laws.specs.Shapes.{Shape}
-use Rattle.time_layouts.specs.declared.times.TheConstants.{TIME_SPEC_32, TIME_VAL_32, TIMER_VALUE_32}
+use Rattle.time_layouts.specs.declared.times.TheConstants.{FILE_TIMES_32, TIME_SPEC_32, TIME_VAL_32, TIMER_VALUE_32}
+use Rattle.time_layouts.specs.declared.times.FileTimes32.{FileTimes32}
 use Rattle.time_layouts.specs.declared.times.TimeSpec32.{TimeSpec32}
 use Rattle.time_layouts.specs.declared.times.TimeVal32.{TimeVal32}
 use Rattle.time_layouts.specs.declared.times.TimerValue32.{TimerValue32}
@@ -34,6 +35,21 @@ timer_value = record {
     timer = record {
       interval = record { seconds = cast_signed w64 (slice_index xs 0); micros = cast_signed w64 (slice_index xs 1) };
       value = record { seconds = cast_signed w64 (slice_index xs 2); micros = cast_signed w64 (slice_index xs 3) };
+    };
+  };
+}
+
+abbrev pub file_times_32 : Shape FileTimes32
+file_times_32 = record {
+  size = FILE_TIMES_32.size;
+  columns = FILE_TIMES_32.columns;
+  row = λ v.
+      cast_unsigned w64 v.times.accessed.seconds ∷ cast_unsigned w64 v.times.accessed.nanos
+      ∷ cast_unsigned w64 v.times.modified.seconds ∷ cast_unsigned w64 v.times.modified.nanos ∷ [];
+  value = λ xs. record {
+    times = record {
+      accessed = record { seconds = cast_signed w64 (slice_index xs 0); nanos = cast_signed w64 (slice_index xs 1) };
+      modified = record { seconds = cast_signed w64 (slice_index xs 2); nanos = cast_signed w64 (slice_index xs 3) };
     };
   };
 }

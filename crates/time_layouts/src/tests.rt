@@ -1,5 +1,5 @@
-use crate::{Limit32, Limit64, TimeSpec32, TimeVal32, TimerValue32, Usage32};
-use kernel_values::{Limit, TimeSpec, TimeVal, TimerValue, Usage};
+use crate::{FileTimes32, Limit32, Limit64, TimeSpec32, TimeVal32, TimerValue32, Usage32};
+use kernel_values::{FileTimes, Limit, TimeSpec, TimeVal, TimerValue, Usage};
 use layout_laws::{Abi, ArmEabi, Ia32, Layout, StoreFault, fetch, store};
 use std::process::Abort;
 use std::test::Fail;
@@ -159,6 +159,42 @@ fn timers_have_their_interval_first<A: Abi, R: Abort + AllocGlobal>(rt: &R) -> R
 fn a_timer_has_its_interval_first(rt: HostRuntime) -> Result<(), Fail> {
     timers_have_their_interval_first::<Ia32, _>(&rt)?;
     timers_have_their_interval_first::<ArmEabi, _>(&rt)
+}
+
+fn file_times_begin_with_access<A: Abi, R: Abort + AllocGlobal>(rt: &R) -> Result<(), Fail> {
+    let mut memory = memory(rt).ok_or("memory")?;
+    let times = FileTimes {
+        accessed: TimeSpec {
+            seconds: 0x1_8000_0000,
+            nanos: 0x3fff_ffff,
+        },
+        modified: TimeSpec {
+            seconds: -2,
+            nanos: 0x3b9a_c9ff,
+        },
+    };
+    store::<A, FileTimes32>(&mut memory, AT, &FileTimes32 { times })?;
+    let mut bytes = [1; 17];
+    memory.copy_in(AT, &mut bytes)?;
+    assert_eq!(rt;
+        &bytes[..8],
+        [0, 0, 0, 0x80, 0xff, 0xff, 0xff, 0x3f].as_slice()
+    );
+    assert_eq!(rt;
+        &bytes[8..],
+        [0xfe, 0xff, 0xff, 0xff, 0xff, 0xc9, 0x9a, 0x3b, 0].as_slice()
+    );
+    let read = fetch::<A, FileTimes32>(&memory, AT)?;
+    assert_eq!(rt; read.times.accessed.seconds, -0x8000_0000);
+    assert_eq!(rt; read.times.modified.seconds, -2);
+    assert_eq!(rt; read.times.modified.nanos, 0x3b9a_c9ff);
+    Ok(())
+}
+
+#[test]
+fn file_times_have_the_access_first(rt: HostRuntime) -> Result<(), Fail> {
+    file_times_begin_with_access::<Ia32, _>(&rt)?;
+    file_times_begin_with_access::<ArmEabi, _>(&rt)
 }
 
 fn usage_keeps_low_words<A: Abi, R: Abort + AllocGlobal>(rt: &R) -> Result<(), Fail> {

@@ -3,7 +3,7 @@
 use super::*;
 use crate::WORKING;
 use crate::state::Maker;
-use kernel_values::{AbiKind, Answer, OpenFlags, TimeSpec};
+use kernel_values::{AbiKind, Answer, Lock, OpenFlags, TimeSpec};
 use std::test::Fail;
 
 const MAKER: Maker = Maker {
@@ -15,7 +15,16 @@ const MAKER: Maker = Maker {
     },
 };
 
-// Directory /d, inode 6, is the working one; file /f, inode 7, with bytes abc00, is open at 0 and 1.
+// A lock of readers on bytes 1 and 2.
+const READERS: Lock = Lock {
+    kind: 0,
+    whence: 0,
+    start: 1,
+    length: 2,
+    pid: 0,
+};
+
+// Directory /d, inode 6, is the working one; file /f, inode 7, with bytes abc00, is open at 0 and 1, and two of them are locked.
 fn opened(alloc: Global) -> Answer<Files> {
     let mut files = Files::new(alloc)?;
     files.image_directory(alloc, b"/d", 6)?;
@@ -25,6 +34,7 @@ fn opened(alloc: Global) -> Answer<Files> {
     let flags = OpenFlags::from_word(AbiKind::Ia32, 0);
     files.open_by_path(alloc, 9, &MAKER, WORKING, b"/f", flags, 0)?;
     files.duplicate(9, 0, -1, false)?;
+    files.set_lock(alloc, 0, &READERS)?;
     Ok(files)
 }
 
@@ -39,6 +49,7 @@ fn label(item: &StateItem) -> (u8, u64, u64) {
             ..
         } => (b'e', *position, *child),
         StateItem::Bytes { inode, bytes, .. } => (b'b', *inode, bytes.len() as u64),
+        StateItem::Lock { first, last, .. } => (b'l', *first, *last),
         StateItem::Descriptor { number, serial, .. } => (b'd', *number, *serial),
         StateItem::OpenFile { serial, inode, .. } => (b'o', *serial, *inode),
         _ => (b'?', 0, 0),
@@ -70,6 +81,7 @@ fn items_come_in_order(rt: HostRuntime) -> Result<(), Fail> {
         (b'n', 6, 0),
         (b'n', 7, 5),
         (b'b', 7, 3),
+        (b'l', 1, 2),
         (b'd', 0, 1),
         (b'd', 1, 1),
         (b'o', 1, 7),

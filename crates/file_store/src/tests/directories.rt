@@ -2,22 +2,15 @@
 
 use super::*;
 
-fn done(answer: Answer<()>) -> i64 {
-    match answer {
-        Ok(()) => 0,
-        Err(fault) => told_fault(fault),
-    }
-}
-
 impl Desk {
-    fn makes(&mut self, path: &[u8]) -> i64 {
+    pub(super) fn makes(&mut self, path: &[u8]) -> i64 {
         done(
             self.files
                 .make_directory(self.alloc, &MAKER, WORKING, path, 0o777),
         )
     }
 
-    fn removes(&mut self, path: &[u8], flags: i64) -> i64 {
+    pub(super) fn removes(&mut self, path: &[u8], flags: i64) -> i64 {
         done(self.files.remove(MAKER.time, WORKING, path, flags))
     }
 
@@ -42,6 +35,15 @@ impl Desk {
         match self.files.entry_after(self.alloc, 0, after) {
             Ok(None) => true,
             Ok(Some(_)) | Err(_) => false,
+        }
+    }
+}
+
+impl Desk {
+    fn position(&self, fd: i64) -> i64 {
+        match self.files.position(fd) {
+            Ok(position) => i64::try_from(position).unwrap_or(-1),
+            Err(errno) => -i64::from(errno.number()),
         }
     }
 }
@@ -89,5 +91,25 @@ fn a_renamed_name_is_listed_last(rt: HostRuntime) -> Result<(), Fail> {
     assert!(rt; desk.lists(2, 4, 7, 8, b"f"));
     assert!(rt; desk.lists(4, 5, 6, 4, b"g"));
     assert!(rt; desk.ends(5));
+    Ok(())
+}
+
+#[test]
+fn a_removed_name_leaves_the_others_in_place(rt: HostRuntime) -> Result<(), Fail> {
+    let mut desk = image(rt.alloc())?;
+    assert!(rt; desk.makes(b"/n") == 0);
+    assert!(rt; desk.removes(b"/f", 0) == 0);
+    assert!(rt; desk.open(b"/", 0) == 0);
+    assert!(rt; desk.lists(0, 1, 2, 4, b"."));
+    assert!(rt; desk.lists(1, 2, 2, 4, b".."));
+    assert!(rt; desk.lists(2, 3, 6, 4, b"d"));
+    assert!(rt; desk.lists(3, 5, 0x1000, 4, b"n"));
+    assert!(rt; desk.lists(4, 5, 0x1000, 4, b"n"));
+    assert!(rt; desk.ends(5));
+    assert!(rt; desk.position(0) == 0);
+    assert!(rt; desk.seeks(0, 4, 0, 4));
+    assert!(rt; desk.position(0) == 4);
+    // EBADF
+    assert!(rt; desk.position(1) == -9);
     Ok(())
 }

@@ -1,0 +1,106 @@
+//! Reads and writes of pipes.
+
+ghost use Rattle.std.specs.Prelude.{◌≡◌, ◌-◌, ◌<◌, length, IfOk, OnErr};
+ghost use Rattle.kernel_values.specs.Outcome.{Gives, GivesAlways, OnOutOfMemory};
+ghost use Rattle.pipe_sock.specs.Pipes.{MovesBytes, fits, free_room, read, waiting, write};
+
+use crate::pipe::PIPE_SIZE;
+use crate::pipes::Pipes;
+use kernel_values::{Answer, Errno, KernelFault, OutOfMemory};
+use std::alloc::Global;
+
+/// PIPE_BUF, by `include/uapi/linux/limits.h`: so many bytes are written whole or not at all.
+const PIPE_BUF: u64 = 4096;
+
+/// Zeros to read bytes into. Only bytes take memory.
+fn zeros(alloc: Global, count: u64) -> Result<Vec<u8>, OutOfMemory>
+    ensures count { IfOk result (λ v. length v.items ≡ count) }
+    ensures wanting { OnErr result (0 < count) }
+{
+    if count == 0 {
+        return Ok(Vec::new(alloc));
+    }
+    match Vec::from_elem(alloc, 0, count as usize) {
+        Ok(bytes) => Ok(bytes),
+        Err(_) => Err(OutOfMemory),
+    }
+}
+
+impl Pipes {
+    /// Reads a pipe: gives bytes, at most `wanted` and at most as many as there is `room` for in memory.
+    ///
+    /// From an empty pipe none without a writer, and EAGAIN with one; EFAULT where bytes wait and there is no room.
+    /// Memory may be wanting only where bytes are read, and then they still wait.
+    #[tactic(auto, using(crate::proofs::Moves::some_moved), unfolding(crate::specs::Pipes::read))]
+    pub fn read(
+        &mut self,
+        alloc: Global,
+        inode: u64,
+        wanted: u64,
+        room: u64,
+        has_writer: bool,
+    ) -> Answer<Vec<u8>>
+        ensures gives { Gives (λ v. v.items) result self.new (read self.old inode wanted room has_writer) }
+        ensures moves { OnOutOfMemory result (MovesBytes (read self.old inode wanted room has_writer).0) }
+        ensures kept { OnOutOfMemory result (self.new ≡ self.old) }
+    {
+        if wanted == 0 {
+            return Ok(Vec::new(alloc));
+        }
+        let waiting = self.waiting(inode);
+        if waiting == 0 && has_writer {
+            return Err(KernelFault::Errno(Errno::TryAgain));
+        }
+        if waiting != 0 && room == 0 {
+            return Err(KernelFault::Errno(Errno::BadAddress));
+        }
+        let mut bytes = zeros(alloc, wanted.min(waiting).min(room))?;
+        self.take(inode, &mut bytes);
+        Ok(bytes)
+    }
+
+    /// How many bytes a pipe has room for.
+    fn free_room(&self, inode: u64) -> u64
+        ensures { result ≡ free_room (waiting self.now inode) }
+    {
+        PIPE_SIZE - self.waiting(inode)
+    }
+
+    /// Whether so many bytes may be written: up to 4,096 all of them, and of more some.
+    fn fits(&self, inode: u64, wanted: u64) -> bool
+        ensures { result ≡ fits (waiting self.now inode) wanted }
+    {
+        let free = self.free_room(inode);
+        if wanted <= PIPE_BUF {
+            wanted <= free
+        } else {
+            0 < free
+        }
+    }
+
+    /// Writes a pipe: of the `wanted` bytes as many as it has room for and as `piece` has, which are those that memory
+    /// gave. It gives how many. It takes no memory.
+    ///
+    /// EPIPE without a reader; EAGAIN where up to 4,096 bytes don't fit, and of more none fits; EFAULT where bytes could be
+    /// written and memory gave none.
+    #[tactic(auto, unfolding(crate::specs::Pipes::write))]
+    pub fn write(&mut self, inode: u64, wanted: u64, piece: &[u8], has_reader: bool) -> Answer<u64>
+        ensures { GivesAlways (λ n. n) result self.new (write self.old inode wanted piece.now has_reader) }
+    {
+        if wanted == 0 {
+            return Ok(0);
+        }
+        if !has_reader {
+            return Err(KernelFault::Errno(Errno::BrokenPipe));
+        }
+        if !self.fits(inode, wanted) {
+            return Err(KernelFault::Errno(Errno::TryAgain));
+        }
+        if piece.is_empty() {
+            return Err(KernelFault::Errno(Errno::BadAddress));
+        }
+        let count = wanted.min(self.free_room(inode)).min(piece.len() as u64);
+        self.append(inode, &piece[..count as usize]);
+        Ok(count)
+    }
+}

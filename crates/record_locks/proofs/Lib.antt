@@ -1,0 +1,4 @@
+pub mod Places
+pub mod Maximal
+pub mod ByteKinds
+pub mod OwnLocks

@@ -1,0 +1,32 @@
+//! The types of the state alone, so that the definitions may name them.
+
+use kernel_values::Lock;
+
+/// Bytes of a file, from the first to the last.
+#[derive(Clone, Copy, Debug, PartialEq, Eq)]
+pub struct ByteRange {
+    pub first: u64,
+    pub last: u64,
+}
+
+/// A lock that the process has on bytes of a file.
+#[derive(Clone, Copy, Debug, PartialEq, Eq)]
+pub struct OwnLock {
+    /// Whether it is one of writers, or one of readers.
+    pub write: bool,
+    pub first: u64,
+    pub last: u64,
+}
+
+/// A lock that another process has.
+#[derive(Clone, Copy, Debug)]
+pub struct ForeignLock {
+    /// The file that it is on.
+    pub inode: u64,
+    /// Whether it is one of writers, or one of readers.
+    pub write: bool,
+    pub first: u64,
+    pub last: u64,
+    /// What F_GETLK tells of it.
+    pub told: Lock,
+}
