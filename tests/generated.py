@@ -24,7 +24,7 @@ class Abi:
         return "call " + " ".join(f"{word:x}" for word in registers)
 
 
-COMMON = {"open": 5, "lseek": 19, "fcntl": 55, "stat": 106, "fstat": 108, "getdents": 141, "stat64": 195, "fstat64": 197, "fcntl64": 221}
+COMMON = {"open": 5, "lseek": 19, "pipe": 42, "fcntl": 55, "stat": 106, "fstat": 108, "_llseek": 140, "getdents": 141, "stat64": 195, "fstat64": 197, "fcntl64": 221}
 ABIS = [
     Abi("ia32", COMMON | {"getdents64": 220, "fstatat64": 300}, {"stat": 64, "stat64": 96, "flock": 16, "flock64": 24}),
     Abi("arm", COMMON | {"getdents64": 217, "fstatat64": 327}, {"stat": 64, "stat64": 104, "flock": 16, "flock64": 32}),
@@ -71,6 +71,8 @@ def stored_in_part(program, abi):
     # A lock without conflict at each place: it is read there, and stored there again.
     add("fcntl", abi.sizes["flock"], 0, 5, place=2, set_up=["poke {at} " + "00" * abi.sizes["flock"]])
     add("fcntl64", abi.sizes["flock64"], 0, 12, place=2, set_up=["poke {at} " + "00" * abi.sizes["flock64"]])
+    add("_llseek", 8, 0, 0, 0, 0, place=3)
+    add("pipe", 8, place=0)
     # Records of a listing: as many as can be stored whole; the first one's fault is the answer.
     for name, lengths in (("getdents", [16, 16, 16]), ("getdents64", [24, 24, 24])):
         for writable in range(sum(lengths) + 1):

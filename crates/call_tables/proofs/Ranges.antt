@@ -7,7 +7,7 @@ use Rattle.kernel_values.specs.declared.abi.AbiKind.TheVariants.{Ia32, ArmEabi}
 use Rattle.call_tables.specs.declared.table.Numbers.{Numbers}
 use Rattle.call_tables.specs.declared.table.Numbers.TheVariants.{Both, By, Ia32Alone, ArmAlone}
 use Rattle.call_tables.specs.declared.table.Entry.{Entry}
-use Rattle.call_tables.specs.declared.table.TheConstants.{CALLS_0, CALLS_64, CALLS_128, CALLS_192, CALLS_256, CALLS_320}
+use Rattle.call_tables.specs.Calls.{calls_0, calls_64, calls_128, calls_192, calls_256, calls_320}
 use Rattle.call_tables.specs.Rows.{has_number, row_in, row, row_from_0, row_from_64, row_from_128, row_from_192, row_from_256, row_from_320}
 
 abbrev pub lies : ℕ → ℕ → ℕ → Bool
@@ -46,28 +46,28 @@ none_outside low high number abi [] inside outside = refl
 none_outside low high number abi (e ∷ es) inside outside = grind (arith, other_line, none_outside low high number abi es)
 
 none_0 : (abi : AbiKind) (number : ℕ) → lies 0 63 number ≡ false → row_from_0 abi number ≡ None
-unfolding row_from_0
-none_0 abi number outside = none_outside 0 63 number abi CALLS_0 (search rules) outside
+unfolding row_from_0 calls_0
+none_0 abi number outside = none_outside 0 63 number abi calls_0 (search rules) outside
 
 none_64 : (abi : AbiKind) (number : ℕ) → lies 64 127 number ≡ false → row_from_64 abi number ≡ None
-unfolding row_from_64
-none_64 abi number outside = none_outside 64 127 number abi CALLS_64 (search rules) outside
+unfolding row_from_64 calls_64
+none_64 abi number outside = none_outside 64 127 number abi calls_64 (search rules) outside
 
 none_128 : (abi : AbiKind) (number : ℕ) → lies 128 191 number ≡ false → row_from_128 abi number ≡ None
-unfolding row_from_128
-none_128 abi number outside = none_outside 128 191 number abi CALLS_128 (search rules) outside
+unfolding row_from_128 calls_128
+none_128 abi number outside = none_outside 128 191 number abi calls_128 (search rules) outside
 
 none_192 : (abi : AbiKind) (number : ℕ) → lies 192 255 number ≡ false → row_from_192 abi number ≡ None
-unfolding row_from_192
-none_192 abi number outside = none_outside 192 255 number abi CALLS_192 (search rules) outside
+unfolding row_from_192 calls_192
+none_192 abi number outside = none_outside 192 255 number abi calls_192 (search rules) outside
 
 none_256 : (abi : AbiKind) (number : ℕ) → lies 256 319 number ≡ false → row_from_256 abi number ≡ None
-unfolding row_from_256
-none_256 abi number outside = none_outside 256 319 number abi CALLS_256 (search rules) outside
+unfolding row_from_256 calls_256
+none_256 abi number outside = none_outside 256 319 number abi calls_256 (search rules) outside
 
 none_320 : (abi : AbiKind) (number : ℕ) → lies 320 383 number ≡ false → row_from_320 abi number ≡ None
-unfolding row_from_320
-none_320 abi number outside = none_outside 320 383 number abi CALLS_320 (search rules) outside
+unfolding row_from_320 calls_320
+none_320 abi number outside = none_outside 320 383 number abi calls_320 (search rules) outside
 
 pub row_0 : (abi : AbiKind) (number : ℕ) → number ≤ 63 → row abi number ≡ row_from_0 abi number
 unfolding row

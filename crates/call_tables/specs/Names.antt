@@ -9,7 +9,7 @@ use Rattle.call_tables.specs.declared.operation.PathOperation.TheVariants.{Chdir
 use Rattle.call_tables.specs.declared.operation.NameOperation.{NameOperation}
 use Rattle.call_tables.specs.declared.operation.NameOperation.TheVariants.{Mkdir, Mkdirat, Rename, Rmdir, Unlink, Unlinkat}
 use Rattle.call_tables.specs.declared.operation.DescriptorOperation.{DescriptorOperation}
-use Rattle.call_tables.specs.declared.operation.DescriptorOperation.TheVariants.{Close, Dup, Dup2, Dup3, Fcntl, Fcntl64}
+use Rattle.call_tables.specs.declared.operation.DescriptorOperation.TheVariants.{Close, Dup, Dup2, Dup3, Fcntl, Fcntl64, Pipe, Pipe2}
 use Rattle.call_tables.specs.declared.operation.TransferOperation.{TransferOperation}
 use Rattle.call_tables.specs.declared.operation.TransferOperation.TheVariants.{Getdents, Getdents64, Llseek, Lseek, Pread64, Pwrite64, Read, Write}
 use Rattle.call_tables.specs.declared.operation.StatusOperation.{StatusOperation}
@@ -44,6 +44,8 @@ descriptor_call_name Dup2 = codes "dup2"
 descriptor_call_name Dup3 = codes "dup3"
 descriptor_call_name Fcntl = codes "fcntl"
 descriptor_call_name Fcntl64 = codes "fcntl64"
+descriptor_call_name Pipe = codes "pipe"
+descriptor_call_name Pipe2 = codes "pipe2"
 
 unfoldable pub transfer_call_name : TransferOperation → List ℕ
 transfer_call_name Getdents = codes "getdents"

@@ -7,8 +7,8 @@ use Rattle.abi_registers.specs.declared.arguments.Form.TheVariants.{Word, Signed
 use Rattle.call_tables.specs.declared.table.Numbers.{Numbers}
 use Rattle.call_tables.specs.declared.table.Numbers.TheVariants.{Both, By, Ia32Alone, ArmAlone}
 use Rattle.call_tables.specs.declared.table.Entry.{Entry}
-use Rattle.call_tables.specs.declared.table.TheConstants.{CALLS_0, CALLS_64, CALLS_128, CALLS_192, CALLS_256, CALLS_320}
 use Rattle.call_tables.specs.declared.find.Row.{Row}
+use Rattle.call_tables.specs.Calls.{calls_0, calls_64, calls_128, calls_192, calls_256, calls_320}
 
 -- whether a call has this number in an ABI
 abbrev pub has_number : AbiKind → Numbers → ℕ → Bool
@@ -30,22 +30,22 @@ row_in abi number (e ∷ es) = if has_number abi e.1 number then Some (row_of e)
 
 -- the row in the table of the numbers from 0 to 63, from 64 to 127, and so on
 unfoldable pub row_from_0 : AbiKind → ℕ → Option Row
-row_from_0 abi number = row_in abi number CALLS_0
+row_from_0 abi number = row_in abi number calls_0
 
 unfoldable pub row_from_64 : AbiKind → ℕ → Option Row
-row_from_64 abi number = row_in abi number CALLS_64
+row_from_64 abi number = row_in abi number calls_64
 
 unfoldable pub row_from_128 : AbiKind → ℕ → Option Row
-row_from_128 abi number = row_in abi number CALLS_128
+row_from_128 abi number = row_in abi number calls_128
 
 unfoldable pub row_from_192 : AbiKind → ℕ → Option Row
-row_from_192 abi number = row_in abi number CALLS_192
+row_from_192 abi number = row_in abi number calls_192
 
 unfoldable pub row_from_256 : AbiKind → ℕ → Option Row
-row_from_256 abi number = row_in abi number CALLS_256
+row_from_256 abi number = row_in abi number calls_256
 
 unfoldable pub row_from_320 : AbiKind → ℕ → Option Row
-row_from_320 abi number = row_in abi number CALLS_320
+row_from_320 abi number = row_in abi number calls_320
 
 abbrev pub or_else : Option Row → Option Row → Option Row
 or_else None other = other

@@ -58,7 +58,7 @@ fn row_in(abi: AbiKind, number: u32, entries: &[Entry]) -> Option<Row>
     }
 }
 
-#[tactic(auto, unfolding(crate::specs::Rows::row_from_0))]
+#[tactic(auto, unfolding(crate::specs::Rows::row_from_0, crate::specs::Calls::calls_0))]
 fn row_from_0(abi: AbiKind, number: u32) -> Option<Row>
     ensures row { result ≡ row_from_0 abi number }
     ensures fits { IfSome result (λ r. r.count ≤ 6) }
@@ -67,7 +67,7 @@ fn row_from_0(abi: AbiKind, number: u32) -> Option<Row>
     row_in(abi, number, &CALLS_0)
 }
 
-#[tactic(auto, unfolding(crate::specs::Rows::row_from_64))]
+#[tactic(auto, unfolding(crate::specs::Rows::row_from_64, crate::specs::Calls::calls_64))]
 fn row_from_64(abi: AbiKind, number: u32) -> Option<Row>
     ensures row { result ≡ row_from_64 abi number }
     ensures fits { IfSome result (λ r. r.count ≤ 6) }
@@ -76,7 +76,7 @@ fn row_from_64(abi: AbiKind, number: u32) -> Option<Row>
     row_in(abi, number, &CALLS_64)
 }
 
-#[tactic(auto, unfolding(crate::specs::Rows::row_from_128))]
+#[tactic(auto, unfolding(crate::specs::Rows::row_from_128, crate::specs::Calls::calls_128))]
 fn row_from_128(abi: AbiKind, number: u32) -> Option<Row>
     ensures row { result ≡ row_from_128 abi number }
     ensures fits { IfSome result (λ r. r.count ≤ 6) }
@@ -85,7 +85,7 @@ fn row_from_128(abi: AbiKind, number: u32) -> Option<Row>
     row_in(abi, number, &CALLS_128)
 }
 
-#[tactic(auto, unfolding(crate::specs::Rows::row_from_192))]
+#[tactic(auto, unfolding(crate::specs::Rows::row_from_192, crate::specs::Calls::calls_192))]
 fn row_from_192(abi: AbiKind, number: u32) -> Option<Row>
     ensures row { result ≡ row_from_192 abi number }
     ensures fits { IfSome result (λ r. r.count ≤ 6) }
@@ -94,7 +94,7 @@ fn row_from_192(abi: AbiKind, number: u32) -> Option<Row>
     row_in(abi, number, &CALLS_192)
 }
 
-#[tactic(auto, unfolding(crate::specs::Rows::row_from_256))]
+#[tactic(auto, unfolding(crate::specs::Rows::row_from_256, crate::specs::Calls::calls_256))]
 fn row_from_256(abi: AbiKind, number: u32) -> Option<Row>
     ensures row { result ≡ row_from_256 abi number }
     ensures fits { IfSome result (λ r. r.count ≤ 6) }
@@ -103,7 +103,7 @@ fn row_from_256(abi: AbiKind, number: u32) -> Option<Row>
     row_in(abi, number, &CALLS_256)
 }
 
-#[tactic(auto, unfolding(crate::specs::Rows::row_from_320))]
+#[tactic(auto, unfolding(crate::specs::Rows::row_from_320, crate::specs::Calls::calls_320))]
 fn row_from_320(abi: AbiKind, number: u32) -> Option<Row>
     ensures row { result ≡ row_from_320 abi number }
     ensures fits { IfSome result (λ r. r.count ≤ 6) }

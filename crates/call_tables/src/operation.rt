@@ -52,6 +52,8 @@ pub enum DescriptorOperation {
     Dup3,
     Fcntl,
     Fcntl64,
+    Pipe,
+    Pipe2,
 }
 
 /// The calls that move bytes or positions, or list directories.
@@ -191,6 +193,8 @@ impl DescriptorOperation {
             DescriptorOperation::Dup3 => "dup3",
             DescriptorOperation::Fcntl => "fcntl",
             DescriptorOperation::Fcntl64 => "fcntl64",
+            DescriptorOperation::Pipe => "pipe",
+            DescriptorOperation::Pipe2 => "pipe2",
         }
     }
 }

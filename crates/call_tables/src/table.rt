@@ -6,7 +6,7 @@
 //! arm fall into different ranges has two lines, an `Ia32Alone` and an `ArmAlone`. Within a table the
 //! lines ascend by the number, that of i386 where there are two. A table stays below thirty lines or
 //! so, since a constant of a hundred is too large to be proved.
-use crate::operation::DescriptorOperation::{Close, Dup, Dup2, Dup3, Fcntl, Fcntl64};
+use crate::operation::DescriptorOperation::{Close, Dup, Dup2, Dup3, Fcntl, Fcntl64, Pipe, Pipe2};
 use crate::operation::FileOperation::{Descriptor, Length, Name, Path, Status, Transfer};
 use crate::operation::LengthOperation::{Fallocate, Ftruncate, Ftruncate64, Truncate, Truncate64};
 use crate::operation::LimitOperation::{Getrusage, Prlimit64, Setrlimit, Ugetrlimit};
@@ -51,7 +51,7 @@ const S: Form = Form::Signed;
 const W: Form = Form::Word;
 
 /// The calls numbered 0 to 63.
-pub const CALLS_0: [Entry; 15] = [
+pub const CALLS_0: [Entry; 16] = [
     Entry(Process(Exit), Both(1), 1, [S, W, W, W, W, W]),
     Entry(File(Transfer(Read)), Both(3), 3, [S, W, W, W, W, W]),
     Entry(File(Transfer(Write)), Both(4), 3, [S, W, W, W, W, W]),
@@ -65,6 +65,7 @@ pub const CALLS_0: [Entry; 15] = [
     Entry(File(Name(Mkdir)), Both(39), 2, [W, W, W, W, W, W]),
     Entry(File(Name(Rmdir)), Both(40), 1, [W, W, W, W, W, W]),
     Entry(File(Descriptor(Dup)), Both(41), 1, [S, W, W, W, W, W]),
+    Entry(File(Descriptor(Pipe)), Both(42), 1, [W, W, W, W, W, W]),
     Entry(File(Descriptor(Fcntl)), Both(55), 3, [S, W, W, W, W, W]),
     Entry(File(Descriptor(Dup2)), Both(63), 2, [S, S, W, W, W, W]),
 ];
@@ -127,7 +128,7 @@ pub const CALLS_256: [Entry; 8] = [
 ];
 
 /// The calls numbered 320 to 383.
-pub const CALLS_320: [Entry; 8] = [
+pub const CALLS_320: [Entry; 9] = [
     Entry(File(Status(Utimensat)), By(320, 348), 4, [S, W, W, S, W, W]),
     Entry(File(Path(Openat)), ArmAlone(322), 4, [S, W, W, W, W, W]),
     Entry(File(Name(Mkdirat)), ArmAlone(323), 3, [S, W, W, W, W, W]),
@@ -140,5 +141,6 @@ pub const CALLS_320: [Entry; 8] = [
     ),
     Entry(File(Name(Unlinkat)), ArmAlone(328), 3, [S, W, S, W, W, W]),
     Entry(File(Descriptor(Dup3)), By(330, 358), 3, [S, S, W, W, W, W]),
+    Entry(File(Descriptor(Pipe2)), By(331, 359), 2, [W, W, W, W, W, W]),
     Entry(Limit(Prlimit64), By(340, 369), 4, [S, W, W, W, W, W]),
 ];

@@ -4,7 +4,7 @@ use kernel_values::AbiKind::{ArmEabi, Ia32};
 use std::test::*;
 
 /// A call with its numbers on i386 and arm, its name, its count, and its first forms.
-const CALLS: [(u32, u32, &[u8], usize, [Form; 2]); 44] = [
+const CALLS: [(u32, u32, &[u8], usize, [Form; 2]); 46] = [
     (1, 1, b"exit", 1, [Signed, Word]),
     (3, 3, b"read", 3, [Signed, Word]),
     (4, 4, b"write", 3, [Signed, Word]),
@@ -18,6 +18,7 @@ const CALLS: [(u32, u32, &[u8], usize, [Form; 2]); 44] = [
     (39, 39, b"mkdir", 2, [Word, Word]),
     (40, 40, b"rmdir", 1, [Word, Word]),
     (41, 41, b"dup", 1, [Signed, Word]),
+    (42, 42, b"pipe", 1, [Word, Word]),
     (55, 55, b"fcntl", 3, [Signed, Word]),
     (63, 63, b"dup2", 2, [Signed, Signed]),
     (75, 75, b"setrlimit", 2, [Word, Word]),
@@ -48,6 +49,7 @@ const CALLS: [(u32, u32, &[u8], usize, [Form; 2]); 44] = [
     (295, 322, b"openat", 4, [Signed, Word]),
     (296, 323, b"mkdirat", 3, [Signed, Word]),
     (330, 358, b"dup3", 3, [Signed, Signed]),
+    (331, 359, b"pipe2", 2, [Word, Word]),
     (340, 369, b"prlimit64", 4, [Signed, Word]),
 ];
 

@@ -1,4 +1,5 @@
 //! The calls on the process itself.
+//! Numbers and arguments are those of `arch/x86/entry/syscalls/syscall_32.tbl` and `arch/arm/tools/syscall.tbl`.
 
 ghost use Rattle.layout_laws.specs.Abis.{rules};
 ghost use Rattle.served_calls.specs.Calls.{ServesAlways, served};
@@ -13,6 +14,8 @@ use time_layouts::Usage32;
 use user_memory::UserMemory;
 
 /// getpid()
+///
+/// No refusal.
 #[tactic(auto, unfolding(crate::specs::Identity::getpid))]
 pub fn getpid<A: Compat>(memory: &mut UserMemory, kernel: &mut Kernel, args: &Args) -> Answer<u32>
     ensures { ServesAlways result memory.new kernel.new (served (getpid (rules A.KIND A.ALIGN64) args.now) memory.old kernel.old) }
@@ -21,6 +24,8 @@ pub fn getpid<A: Compat>(memory: &mut UserMemory, kernel: &mut Kernel, args: &Ar
 }
 
 /// exit(code)
+///
+/// No refusal.
 #[tactic(auto, unfolding(crate::specs::Identity::exit))]
 pub fn exit<A: Compat>(memory: &mut UserMemory, kernel: &mut Kernel, args: &Args) -> Answer<u32>
     ensures { ServesAlways result memory.new kernel.new (served (exit (rules A.KIND A.ALIGN64) args.now) memory.old kernel.old) }
@@ -31,6 +36,8 @@ pub fn exit<A: Compat>(memory: &mut UserMemory, kernel: &mut Kernel, args: &Args
 }
 
 /// getuid32()
+///
+/// No refusal.
 #[tactic(auto, unfolding(crate::specs::Identity::getuid32))]
 pub fn getuid32<A: Compat>(memory: &mut UserMemory, kernel: &mut Kernel, args: &Args) -> Answer<u32>
     ensures { ServesAlways result memory.new kernel.new (served (getuid32 (rules A.KIND A.ALIGN64) args.now) memory.old kernel.old) }
@@ -39,6 +46,8 @@ pub fn getuid32<A: Compat>(memory: &mut UserMemory, kernel: &mut Kernel, args: &
 }
 
 /// getgid32()
+///
+/// No refusal.
 #[tactic(auto, unfolding(crate::specs::Identity::getgid32))]
 pub fn getgid32<A: Compat>(memory: &mut UserMemory, kernel: &mut Kernel, args: &Args) -> Answer<u32>
     ensures { ServesAlways result memory.new kernel.new (served (getgid32 (rules A.KIND A.ALIGN64) args.now) memory.old kernel.old) }
@@ -47,6 +56,8 @@ pub fn getgid32<A: Compat>(memory: &mut UserMemory, kernel: &mut Kernel, args: &
 }
 
 /// getrusage(who, usage)
+///
+/// The refusals of `Kernel::usage`; EFAULT.
 #[tactic(auto, unfolding(crate::specs::Identity::getrusage))]
 pub fn getrusage<A: Compat>(
     memory: &mut UserMemory,

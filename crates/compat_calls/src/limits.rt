@@ -1,4 +1,5 @@
 //! The calls on limits.
+//! Numbers and arguments are those of `arch/x86/entry/syscalls/syscall_32.tbl` and `arch/arm/tools/syscall.tbl`.
 
 ghost use Rattle.kernel_values.specs.Outcome.{GivesAlways};
 ghost use Rattle.layout_laws.specs.Abis.{rules};
@@ -14,6 +15,8 @@ use time_layouts::{Limit32, Limit64};
 use user_memory::UserMemory;
 
 /// ugetrlimit(resource, limit)
+///
+/// The refusals of `Kernel::limit`; EFAULT.
 #[tactic(auto, unfolding(crate::specs::Limits::ugetrlimit))]
 pub fn ugetrlimit<A: Compat>(
     memory: &mut UserMemory,
@@ -53,6 +56,9 @@ fn swap_limit(kernel: &mut Kernel, pid: i64, resource: u32, new: Option<Limit64>
 }
 
 /// prlimit64(process, resource, new limit, old limit)
+///
+/// EFAULT; EINVAL for a resource above 15; ESRCH for another process; the refusals of `Kernel::set_limit`; EFAULT,
+/// and the new limit holds.
 #[tactic(auto, unfolding(crate::specs::Limits::prlimit64))]
 pub fn prlimit64<A: Compat>(
     memory: &mut UserMemory,
@@ -68,6 +74,8 @@ pub fn prlimit64<A: Compat>(
 }
 
 /// setrlimit(resource, limit)
+///
+/// EFAULT; the refusals of `Kernel::set_limit`.
 #[tactic(auto, unfolding(crate::specs::Limits::setrlimit))]
 pub fn setrlimit<A: Compat>(
     memory: &mut UserMemory,

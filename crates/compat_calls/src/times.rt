@@ -1,4 +1,5 @@
 //! The calls on clocks.
+//! Numbers and arguments are those of `arch/x86/entry/syscalls/syscall_32.tbl` and `arch/arm/tools/syscall.tbl`.
 
 ghost use Rattle.std.specs.Prelude.{◌≡◌};
 ghost use Rattle.layout_laws.specs.Abis.{rules};
@@ -14,6 +15,8 @@ use time_layouts::{TimeSpec32, TimeVal32};
 use user_memory::UserMemory;
 
 /// clock_gettime(clock, time)
+///
+/// EINVAL for another clock than 0 and 1; EFAULT.
 #[tactic(auto, unfolding(crate::specs::Times::clock_gettime))]
 pub fn clock_gettime<A: Compat>(
     memory: &mut UserMemory,
@@ -31,6 +34,8 @@ pub fn clock_gettime<A: Compat>(
 }
 
 /// clock_settime(clock, time)
+///
+/// EFAULT; the refusals of `Kernel::set_clock`.
 #[tactic(auto, unfolding(crate::specs::Times::clock_settime))]
 pub fn clock_settime<A: Compat>(
     memory: &mut UserMemory,
@@ -45,6 +50,8 @@ pub fn clock_settime<A: Compat>(
 }
 
 /// gettimeofday(time, zone)
+///
+/// EFAULT; a time stored before it stays.
 #[tactic(auto, unfolding(crate::specs::Times::gettimeofday))]
 pub fn gettimeofday<A: Compat>(
     memory: &mut UserMemory,
@@ -102,6 +109,8 @@ fn tell_slept<A: Compat>(
 }
 
 /// nanosleep(time, rest)
+///
+/// EFAULT; the refusals of `Kernel::sleep`; EFAULT where a rest can't be stored, and the time has passed; EINTR.
 #[tactic(auto, unfolding(crate::specs::Times::nanosleep))]
 pub fn nanosleep<A: Compat>(
     memory: &mut UserMemory,
@@ -116,6 +125,8 @@ pub fn nanosleep<A: Compat>(
 }
 
 /// clock_getres(clock, resolution)
+///
+/// EINVAL for another clock than 0 and 1; EFAULT.
 #[tactic(auto, unfolding(crate::specs::Times::clock_getres))]
 pub fn clock_getres<A: Compat>(
     memory: &mut UserMemory,
@@ -141,6 +152,8 @@ fn is_absolute(flags: i64) -> bool
 }
 
 /// clock_nanosleep(clock, flags, time, rest)
+///
+/// EFAULT; the refusals of `Kernel::sleep`; EFAULT where a rest can't be stored, and the time has passed; EINTR.
 #[tactic(auto, unfolding(crate::specs::Times::clock_nanosleep))]
 pub fn clock_nanosleep<A: Compat>(
     memory: &mut UserMemory,

@@ -9,7 +9,7 @@ use Rattle.file_bytes.specs.Filled.{has_filled, filled_below, filled_pages, fill
 use Rattle.file_bytes.specs.Pages.{byte_at}
 use Rattle.file_bytes.specs.Row.{row}
 use Rattle.file_bytes.specs.Search.{AreZero}
-use Rattle.file_bytes.specs.Table.{at}
+use Rattle.number_maps.specs.NumberMap.{at}
 use Rattle.file_bytes.proofs.Contents.{content_length, drop-row_front}
 use Rattle.file_bytes.proofs.NextRun.{byte_of_page, passed, rest_none}
 use Rattle.file_bytes.proofs.Rows.{length-row, row-append, row_of, take-row}

@@ -4,7 +4,7 @@ use Rattle.std.proofs.lemmas.Grind.{common_steps}
 use Rattle.std.proofs.lemmas.Bool.{cases_eq}
 use Rattle.file_bytes.specs.Row.{Cuts}
 use Rattle.file_bytes.specs.Pages.{Puts, byte_at, byte_in}
-use Rattle.file_bytes.specs.Table.{at}
+use Rattle.number_maps.specs.NumberMap.{at}
 use Rattle.file_bytes.proofs.Pieces.{put_here, put_elsewhere}
 
 cleared_before : (page : List ℕ) (start k : ℕ) → start ≤ length page → k < start → get_or (take start page ++ replicate (4096 - start) 0) k 0 ≡ get_or page k 0

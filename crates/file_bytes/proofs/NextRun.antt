@@ -4,7 +4,7 @@ use Rattle.std.specs.Prelude.{Option, Some, None, IsSome}
 use Rattle.std.proofs.lemmas.Bool.{cases_lt}
 use Rattle.file_bytes.specs.declared.run.Run.{Run}
 use Rattle.file_bytes.specs.Pages.{byte_at}
-use Rattle.file_bytes.specs.Table.{at}
+use Rattle.number_maps.specs.NumberMap.{at}
 use Rattle.file_bytes.specs.Search.{AreZero, AreFilled, IsRunAt}
 
 -- a run within the bytes of a page

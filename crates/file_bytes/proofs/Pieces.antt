@@ -4,7 +4,7 @@ use Rattle.std.proofs.lemmas.Grind.{common_steps}
 use Rattle.std.proofs.lemmas.List.{get_or-replicate}
 use Rattle.file_bytes.specs.Row.{Overlays, laid, row}
 use Rattle.file_bytes.specs.Pages.{Puts, SameBytes, byte_at, byte_in}
-use Rattle.file_bytes.specs.Table.{at}
+use Rattle.number_maps.specs.NumberMap.{at}
 use Rattle.file_bytes.proofs.Rows.{row_of}
 
 -- a place of a piece lies in the page of its start

@@ -1,4 +1,3 @@
-pub mod Table
 pub mod Row
 pub mod Pages
 pub mod Runs

@@ -1,6 +1,6 @@
 -- Pages of 4,096 bytes, by number.
 use Rattle.std.specs.Prelude.{◌≡◌, ℕ, ◌-◌, ◌/◌, ◌%◌, min, ◌==◌, if◌then◌else◌, List, Option, Some, None, slice_index}
-use Rattle.file_bytes.specs.Table.{at}
+use Rattle.number_maps.specs.NumberMap.{at}
 
 -- a byte of a page; a page that isn't there is zero
 abbrev pub byte_in : Option (List ℕ) → ℕ → ℕ

@@ -2,7 +2,7 @@
 
 ghost use Rattle.std.specs.Prelude.{[], ◌≡◌, ℕ, List, true, false, None, ◌+◌, ◌-◌, ◌*◌, ◌/◌, ◌%◌, ◌<◌, ◌≤◌, ◌^◌, ◌++◌, length, take, drop, replicate, IsSome, IfSome, Some, OnOk, OnErr, IfOk};
 ghost use Rattle.file_bytes.specs.Row.{Cuts, Overlays, laid, row};
-ghost use Rattle.file_bytes.specs.Table.{at};
+ghost use Rattle.number_maps.specs.NumberMap.{at};
 ghost use Rattle.file_bytes.specs.Pages.{Puts, SameBytes, byte_at, piece_length};
 
 use crate::page::{PAGE, Page};

@@ -1,7 +1,7 @@
 //! The search for the next run of bytes other than 0, which looks at the pages alone that are there.
 
 ghost use Rattle.std.specs.Prelude.{◌≡◌, ◌≢◌, ℕ, List, ◌+◌, ◌-◌, ◌*◌, ◌/◌, ◌<◌, ◌≤◌, ◌^◌, length, slice_index, max, Some, None, MatchOption, IfSome, IsSome};
-ghost use Rattle.file_bytes.specs.Table.{at};
+ghost use Rattle.number_maps.specs.NumberMap.{at};
 ghost use Rattle.file_bytes.specs.Pages.{byte_at};
 ghost use Rattle.file_bytes.specs.Search.{AreZero, AreFilled, IsNext};
 

@@ -10,7 +10,7 @@ use Rattle.call_tables.specs.declared.operation.PathOperation.TheVariants.{Chdir
 use Rattle.call_tables.specs.declared.operation.NameOperation.{NameOperation}
 use Rattle.call_tables.specs.declared.operation.NameOperation.TheVariants.{Mkdir, Mkdirat, Rename, Rmdir, Unlink, Unlinkat}
 use Rattle.call_tables.specs.declared.operation.DescriptorOperation.{DescriptorOperation}
-use Rattle.call_tables.specs.declared.operation.DescriptorOperation.TheVariants.{Close, Dup, Dup2, Dup3, Fcntl, Fcntl64}
+use Rattle.call_tables.specs.declared.operation.DescriptorOperation.TheVariants.{Close, Dup, Dup2, Dup3, Fcntl, Fcntl64, Pipe, Pipe2}
 use Rattle.call_tables.specs.declared.operation.TransferOperation.{TransferOperation}
 use Rattle.call_tables.specs.declared.operation.TransferOperation.TheVariants.{Getdents, Getdents64, Llseek, Lseek, Pread64, Pwrite64, Read, Write}
 use Rattle.call_tables.specs.declared.operation.StatusOperation.{StatusOperation}
@@ -23,6 +23,7 @@ use Rattle.file_calls.specs.Lengths as lengths
 use Rattle.file_calls.specs.Listings as listings
 use Rattle.file_calls.specs.Names as names
 use Rattle.file_calls.specs.Paths as paths
+use Rattle.file_calls.specs.Pipes as pipes
 use Rattle.file_calls.specs.Retiming as retiming
 use Rattle.file_calls.specs.Status as status
 use Rattle.file_calls.specs.Transfers as transfers
@@ -48,6 +49,8 @@ served_descriptor Dup2 abi args m k = served (descriptors.dup2 abi args) m k
 served_descriptor Dup3 abi args m k = served (descriptors.dup3 abi args) m k
 served_descriptor Fcntl abi args m k = descriptors.fcntl abi args m k
 served_descriptor Fcntl64 abi args m k = descriptors.fcntl64 abi args m k
+served_descriptor Pipe abi args m k = served (pipes.pipe abi args) m k
+served_descriptor Pipe2 abi args m k = served (pipes.pipe2 abi args) m k
 
 unfoldable pub served_transfer : TransferOperation → AbiRules → Args → Memory → Kernel → Served
 served_transfer Getdents abi args m k = listings.getdents false args m k
@@ -98,7 +101,7 @@ name_takes_memory Rmdir = false
 name_takes_memory Unlink = false
 name_takes_memory Unlinkat = false
 
--- The call may take memory where it copies a descriptor or sets a lock, as commands of fcntl do.
+-- The call may take memory where it copies a descriptor, sets a lock, as commands of fcntl do, or makes a pipe.
 unfoldable pub descriptor_takes_memory : DescriptorOperation → Bool
 descriptor_takes_memory Close = false
 descriptor_takes_memory Dup = true
@@ -106,6 +109,8 @@ descriptor_takes_memory Dup2 = true
 descriptor_takes_memory Dup3 = true
 descriptor_takes_memory Fcntl = true
 descriptor_takes_memory Fcntl64 = true
+descriptor_takes_memory Pipe = true
+descriptor_takes_memory Pipe2 = true
 
 -- The call may take memory where it moves bytes or lists a directory.
 unfoldable pub transfer_takes_memory : TransferOperation → Bool

@@ -1,9 +1,11 @@
 -- The commands of fcntl and fcntl64, by include/uapi/asm-generic/fcntl.h and include/uapi/linux/fcntl.h.
-use Rattle.std.specs.Prelude.{ℕ, ℤ, pos, ◌==◌, ◌||◌, true, false, Result, Ok, Err, if◌then◌else◌}
+use Rattle.std.specs.Prelude.{◌≡◌, ℕ, ℤ, pos, ◌==◌, ◌||◌, Bool, true, false, Result, Ok, Err, if◌then◌else◌}
 use Rattle.kernel_values.specs.OpenFlags.{from_word, to_word}
 use Rattle.kernel_values.specs.declared.abi.AbiKind.{AbiKind}
 use Rattle.kernel_values.specs.declared.errno.Errno.{Errno}
 use Rattle.kernel_values.specs.declared.errno.Errno.TheVariants.{BadDescriptor, InvalidArgument}
+use Rattle.kernel_values.specs.declared.errno.KernelFault.{KernelFault}
+use Rattle.kernel_values.specs.declared.errno.KernelFault.TheVariants as fault
 use Rattle.native_kernel.specs.declared.state.Kernel.{Kernel}
 use Rattle.native_kernel.specs.Operations as native
 use Rattle.file_calls.specs.declared.commands.Command.{Command}
@@ -33,6 +35,30 @@ unfoldable pub command_64_of : ℕ → Command
 command_64_of n =
     if n == 12 then command.Lock locks.Find64
     else (if (n == 13) || (n == 14) then command.Lock locks.Set64 else command_of n)
+
+-- a command on a descriptor may take memory where it copies the descriptor
+abbrev pub copy_takes_memory : DescriptorCommand → Bool
+copy_takes_memory commands.Duplicate = true
+copy_takes_memory commands.DescriptorFlags = false
+copy_takes_memory commands.SetDescriptorFlags = false
+copy_takes_memory commands.OpenFlags = false
+copy_takes_memory commands.SetOpenFlags = false
+copy_takes_memory commands.DuplicateCloseOnExec = true
+copy_takes_memory commands.Other = false
+
+-- and one on locks where it sets them
+abbrev pub command_takes_memory : Command → Bool
+command_takes_memory (command.Descriptor c) = copy_takes_memory c
+command_takes_memory (command.Lock locks.Find) = false
+command_takes_memory (command.Lock locks.Set) = true
+command_takes_memory (command.Lock locks.Find64) = false
+command_takes_memory (command.Lock locks.Set64) = true
+
+-- a command gave the answer and the kernel of its definition; memory was wanting only where it may take some
+abbrev pub GivesBy : Bool → Result ℕ KernelFault → Kernel → Result ℕ Errno × Kernel → Type 0
+GivesBy takes (Ok n) after defined = defined ≡ (Ok n, after)
+GivesBy takes (Err (fault.Errno e)) after defined = defined ≡ (Err e, after)
+GivesBy takes (Err fault.OutOfMemory) after defined = takes ≡ true
 
 -- an answer in another form
 abbrev pub answering : {A B S : Type 0} → (A → B) → Result A Errno × S → Result B Errno × S

@@ -6,7 +6,6 @@ use Rattle.abi_registers.specs.declared.arguments.Args.{Args}
 use Rattle.abi_registers.specs.Values.{signed, word}
 use Rattle.layout_laws.specs.Abis.{AbiRules}
 use Rattle.served_calls.specs.Calls.{Call, Memory, Served, gives_word, served}
-use Rattle.served_calls.specs.Bytes.{low_word}
 use Rattle.file_calls.specs.Commands.{asked, command_64_of, command_of}
 use Rattle.file_calls.specs.Locks as locks
 use Rattle.file_calls.specs.declared.commands.Command.{Command}
@@ -26,7 +25,7 @@ close abi args m k = record {
 unfoldable pub dup : AbiRules → Args → Memory → Kernel → Call ℕ
 dup abi args m k = record {
   operation = native.duplicate k (signed args 0) (negsuc 0) false;
-  deliver = λ fd. gives_word (low_word fd);
+  deliver = gives_word;
   keeps = true;
 }
 
@@ -34,7 +33,7 @@ dup abi args m k = record {
 unfoldable pub dup2 : AbiRules → Args → Memory → Kernel → Call ℕ
 dup2 abi args m k = record {
   operation = native.duplicate_to k (signed args 0) (signed args 1) 0 false;
-  deliver = λ fd. gives_word (low_word fd);
+  deliver = gives_word;
   keeps = true;
 }
 
@@ -42,7 +41,7 @@ dup2 abi args m k = record {
 unfoldable pub dup3 : AbiRules → Args → Memory → Kernel → Call ℕ
 dup3 abi args m k = record {
   operation = native.duplicate_to k (signed args 0) (signed args 1) (word args 2) true;
-  deliver = λ fd. gives_word (low_word fd);
+  deliver = gives_word;
   keeps = true;
 }
 
@@ -50,7 +49,7 @@ dup3 abi args m k = record {
 unfoldable pub control : DescriptorCommand → AbiRules → Args → Memory → Kernel → Call ℕ
 control c abi args m k = record {
   operation = asked abi.kind k (signed args 0) c (word args 2);
-  deliver = λ answer. gives_word (low_word answer);
+  deliver = gives_word;
   keeps = true;
 }
 

@@ -9,3 +9,4 @@ pub mod Status
 pub mod Transfers
 pub mod Lengths
 pub mod Retiming
+pub mod Pipes

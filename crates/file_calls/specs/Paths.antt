@@ -7,7 +7,7 @@ use Rattle.abi_registers.specs.declared.arguments.Args.{Args}
 use Rattle.abi_registers.specs.Values.{signed, word}
 use Rattle.layout_laws.specs.Abis.{AbiRules}
 use Rattle.served_calls.specs.Calls.{Call, Memory, gives_word, on_fetched, ◌>>◌}
-use Rattle.served_calls.specs.Bytes.{low_word, path_at, stores_bytes}
+use Rattle.served_calls.specs.Bytes.{path_at, stores_bytes}
 
 -- AT_FDCWD: from the working directory
 abbrev pub working : ℤ
@@ -17,7 +17,7 @@ working = negsuc 99
 unfoldable pub open_path : AbiRules → Args → Memory → Kernel → Call ℕ
 open_path abi args m k = record {
   operation = on_fetched k (path_at m (word args 0)) (λ path. native.open_path k working path (from_word abi.kind (word args 1)) (word args 2));
-  deliver = λ fd. gives_word (low_word fd);
+  deliver = gives_word;
   keeps = false;
 }
 
@@ -25,7 +25,7 @@ open_path abi args m k = record {
 unfoldable pub open_path_at : AbiRules → Args → Memory → Kernel → Call ℕ
 open_path_at abi args m k = record {
   operation = on_fetched k (path_at m (word args 1)) (λ path. native.open_path k (signed args 0) path (from_word abi.kind (word args 2)) (word args 3));
-  deliver = λ fd. gives_word (low_word fd);
+  deliver = gives_word;
   keeps = false;
 }
 
@@ -41,6 +41,6 @@ chdir abi args m k = record {
 unfoldable pub getcwd : AbiRules → Args → Memory → Kernel → Call (List ℕ)
 getcwd abi args m k = record {
   operation = (native.current_dir k (word args 1), k);
-  deliver = λ text. stores_bytes (word args 0) text >> gives_word (low_word (length text));
+  deliver = λ text. stores_bytes (word args 0) text >> gives_word (length text);
   keeps = false;
 }

@@ -1,5 +1,5 @@
 -- The calls that move bytes, and those that move positions. A transfer goes up to the first byte without the right.
-use Rattle.std.specs.Prelude.{ℕ, ℤ, ◌+◌, ◌*◌, ◌^◌, nat_abs, int_lt, pos, length, List, if◌then◌else◌, true}
+use Rattle.std.specs.Prelude.{ℕ, ℤ, ◌+◌, ◌*◌, ◌^◌, nat_abs, int_lt, pos, length, List, if◌then◌else◌, true, false}
 use Rattle.std.specs.Int.{w64, cast_signed}
 use Rattle.kernel_values.specs.declared.errno.Errno.TheVariants.{Overflow}
 use Rattle.file_store.specs.declared.state.Place.TheVariants.{Current, At}
@@ -15,14 +15,14 @@ use Rattle.served_calls.specs.Shapes.{stores}
 
 -- the bytes read, and how many they are
 abbrev pub gives_bytes : ℕ → List ℕ → Delivery ℕ
-gives_bytes at bytes = stores_bytes at bytes >> gives_word (low_word (length bytes))
+gives_bytes at bytes = stores_bytes at bytes >> gives_word (length bytes)
 
--- read(descriptor, buffer, count)
+-- read(descriptor, buffer, count): no more bytes than there is room for, so that all of them can be stored
 unfoldable pub read : AbiRules → Args → Memory → Kernel → Call (List ℕ)
 read abi args m k = record {
   operation = native.read k (signed args 0) (transfer_count (word args 2)) (room_at m (word args 1) (transfer_count (word args 2))) Current;
   deliver = gives_bytes (word args 1);
-  keeps = true;
+  keeps = false;
 }
 
 -- pread64(descriptor, buffer, count, offset)
@@ -30,14 +30,14 @@ unfoldable pub pread64 : AbiRules → Args → Memory → Kernel → Call (List 
 pread64 abi args m k = record {
   operation = native.read k (signed args 0) (transfer_count (word args 2)) (room_at m (word args 1) (transfer_count (word args 2))) (At (signed args 3));
   deliver = gives_bytes (word args 1);
-  keeps = true;
+  keeps = false;
 }
 
 -- write(descriptor, buffer, count)
 unfoldable pub write : AbiRules → Args → Memory → Kernel → Call ℕ
 write abi args m k = record {
   operation = native.write k (signed args 0) (transfer_count (word args 2)) (data_at m (word args 1) (transfer_count (word args 2))) Current;
-  deliver = λ count. gives_word (low_word count);
+  deliver = gives_word;
   keeps = true;
 }
 
@@ -45,7 +45,7 @@ write abi args m k = record {
 unfoldable pub pwrite64 : AbiRules → Args → Memory → Kernel → Call ℕ
 pwrite64 abi args m k = record {
   operation = native.write k (signed args 0) (transfer_count (word args 2)) (data_at m (word args 1) (transfer_count (word args 2))) (At (signed args 3));
-  deliver = λ count. gives_word (low_word count);
+  deliver = gives_word;
   keeps = true;
 }
 

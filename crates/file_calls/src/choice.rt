@@ -4,7 +4,7 @@ ghost use Rattle.layout_laws.specs.Abis.{rules};
 ghost use Rattle.served_calls.specs.Calls.{ServesAlways, ServesBy};
 ghost use Rattle.file_calls.specs.Choice.{descriptor_takes_memory, file_takes_memory, name_takes_memory, path_takes_memory, served_descriptor, served_file, served_length, served_name, served_path, served_status, served_transfer, transfer_takes_memory};
 
-use crate::{descriptors, lengths, listings, names, paths, retiming, status, transfers};
+use crate::{descriptors, lengths, listings, names, paths, pipes, retiming, status, transfers};
 use abi_registers::Args;
 use call_tables::{
     DescriptorOperation, FileOperation, LengthOperation, NameOperation, PathOperation,
@@ -54,7 +54,7 @@ fn serve_name<A: Compat>(
     }
 }
 
-#[tactic(auto, unfolding(crate::specs::Choice::served_descriptor, crate::specs::Choice::descriptor_takes_memory))]
+#[tactic(auto, using(crate::proofs::Wanting::may_want), unfolding(crate::specs::Choice::served_descriptor, crate::specs::Choice::descriptor_takes_memory))]
 fn serve_descriptor<A: Compat>(
     alloc: Global,
     memory: &mut UserMemory,
@@ -71,6 +71,8 @@ fn serve_descriptor<A: Compat>(
         DescriptorOperation::Dup3 => descriptors::dup3::<A>(memory, kernel, args),
         DescriptorOperation::Fcntl => descriptors::fcntl::<A>(alloc, memory, kernel, args),
         DescriptorOperation::Fcntl64 => descriptors::fcntl64::<A>(alloc, memory, kernel, args),
+        DescriptorOperation::Pipe => pipes::pipe::<A>(alloc, memory, kernel, args),
+        DescriptorOperation::Pipe2 => pipes::pipe2::<A>(alloc, memory, kernel, args),
     }
 }
 

@@ -1,8 +1,8 @@
 //! The commands of fcntl and fcntl64.
 
-ghost use Rattle.std.specs.Prelude.{◌≡◌};
-ghost use Rattle.kernel_values.specs.Outcome.{Gives, GivesAlways};
-ghost use Rattle.file_calls.specs.Commands.{asked, command_64_of, command_of, descriptor_command};
+ghost use Rattle.std.specs.Prelude.{◌≡◌, pos, true, false};
+ghost use Rattle.native_kernel.specs.Operations.{duplicate};
+ghost use Rattle.file_calls.specs.Commands.{GivesBy, asked, command_64_of, command_of, copy_takes_memory, descriptor_command};
 
 use kernel_values::{AbiKind, Answer, Errno, KernelFault, OpenFlags};
 use native_kernel::Kernel;
@@ -87,41 +87,48 @@ pub fn command_64_of(number: u32) -> Command
     }
 }
 
-#[tactic(auto, unfolding(crate::specs::Commands::asked))]
-fn descriptor_flags(kind: AbiKind, kernel: &mut Kernel, fd: i64, argument: u32) -> Answer<u64>
-    ensures { Gives (λ n. n) result kernel.new (asked kind kernel.old fd DescriptorCommand.DescriptorFlags argument) }
+fn duplicate(kernel: &mut Kernel, fd: i64, least: u32, cloexec: bool) -> Answer<u32>
+    ensures { GivesBy true result kernel.new (duplicate kernel.old fd (pos least) cloexec) }
 {
-    let flags = kernel.fd_flags(fd)?;
-    Ok(u64::from(flags))
+    let number = kernel.duplicate(fd, i64::from(least), cloexec)?;
+    Ok(number)
 }
 
 #[tactic(auto, unfolding(crate::specs::Commands::asked))]
-fn set_descriptor_flags(kind: AbiKind, kernel: &mut Kernel, fd: i64, argument: u32) -> Answer<u64>
-    ensures { Gives (λ n. n) result kernel.new (asked kind kernel.old fd DescriptorCommand.SetDescriptorFlags argument) }
+fn descriptor_flags(kind: AbiKind, kernel: &mut Kernel, fd: i64, argument: u32) -> Answer<u32>
+    ensures { GivesBy false result kernel.new (asked kind kernel.old fd DescriptorCommand.DescriptorFlags argument) }
+{
+    let flags = kernel.fd_flags(fd)?;
+    Ok(flags)
+}
+
+#[tactic(auto, unfolding(crate::specs::Commands::asked))]
+fn set_descriptor_flags(kind: AbiKind, kernel: &mut Kernel, fd: i64, argument: u32) -> Answer<u32>
+    ensures { GivesBy false result kernel.new (asked kind kernel.old fd DescriptorCommand.SetDescriptorFlags argument) }
 {
     kernel.set_fd_flags(fd, argument)?;
     Ok(0)
 }
 
 #[tactic(auto, unfolding(crate::specs::Commands::asked))]
-fn open_flags(kind: AbiKind, kernel: &mut Kernel, fd: i64, argument: u32) -> Answer<u64>
-    ensures { Gives (λ n. n) result kernel.new (asked kind kernel.old fd DescriptorCommand.OpenFlags argument) }
+fn open_flags(kind: AbiKind, kernel: &mut Kernel, fd: i64, argument: u32) -> Answer<u32>
+    ensures { GivesBy false result kernel.new (asked kind kernel.old fd DescriptorCommand.OpenFlags argument) }
 {
     let flags = kernel.open_flags(fd)?;
-    Ok(u64::from(flags.to_word(kind)))
+    Ok(flags.to_word(kind))
 }
 
 #[tactic(auto, unfolding(crate::specs::Commands::asked))]
-fn set_open_flags(kind: AbiKind, kernel: &mut Kernel, fd: i64, argument: u32) -> Answer<u64>
-    ensures { Gives (λ n. n) result kernel.new (asked kind kernel.old fd DescriptorCommand.SetOpenFlags argument) }
+fn set_open_flags(kind: AbiKind, kernel: &mut Kernel, fd: i64, argument: u32) -> Answer<u32>
+    ensures { GivesBy false result kernel.new (asked kind kernel.old fd DescriptorCommand.SetOpenFlags argument) }
 {
     kernel.set_open_flags(fd, OpenFlags::from_word(kind, argument))?;
     Ok(0)
 }
 
 #[tactic(auto, unfolding(crate::specs::Commands::asked))]
-fn refused(kind: AbiKind, kernel: &mut Kernel, fd: i64, argument: u32) -> Answer<u64>
-    ensures { Gives (λ n. n) result kernel.new (asked kind kernel.old fd DescriptorCommand.Other argument) }
+fn refused(kind: AbiKind, kernel: &mut Kernel, fd: i64, argument: u32) -> Answer<u32>
+    ensures { GivesBy false result kernel.new (asked kind kernel.old fd DescriptorCommand.Other argument) }
 {
     if kernel.can_use(fd, false, false) {
         return Err(KernelFault::Errno(Errno::InvalidArgument));
@@ -129,7 +136,7 @@ fn refused(kind: AbiKind, kernel: &mut Kernel, fd: i64, argument: u32) -> Answer
     Err(KernelFault::Errno(Errno::BadDescriptor))
 }
 
-/// What a command asks of the kernel. EBADF; for one that isn't served EINVAL; the refusals of `Kernel::duplicate`.
+/// What a command asks of the kernel. Memory may be wanting only where the descriptor is copied. EBADF; for one that isn't served EINVAL; the refusals of `Kernel::duplicate`.
 #[tactic(auto, unfolding(crate::specs::Commands::asked))]
 pub fn ask(
     kind: AbiKind,
@@ -137,16 +144,16 @@ pub fn ask(
     fd: i64,
     command: DescriptorCommand,
     argument: u32,
-) -> Answer<u64>
-    ensures { Gives (λ n. n) result kernel.new (asked kind kernel.old fd command argument) }
+) -> Answer<u32>
+    ensures { GivesBy (copy_takes_memory command) result kernel.new (asked kind kernel.old fd command argument) }
 {
     match command {
-        DescriptorCommand::Duplicate => kernel.duplicate(fd, i64::from(argument), false),
+        DescriptorCommand::Duplicate => duplicate(kernel, fd, argument, false),
         DescriptorCommand::DescriptorFlags => descriptor_flags(kind, kernel, fd, argument),
         DescriptorCommand::SetDescriptorFlags => set_descriptor_flags(kind, kernel, fd, argument),
         DescriptorCommand::OpenFlags => open_flags(kind, kernel, fd, argument),
         DescriptorCommand::SetOpenFlags => set_open_flags(kind, kernel, fd, argument),
-        DescriptorCommand::DuplicateCloseOnExec => kernel.duplicate(fd, i64::from(argument), true),
+        DescriptorCommand::DuplicateCloseOnExec => duplicate(kernel, fd, argument, true),
         DescriptorCommand::Other => refused(kind, kernel, fd, argument),
     }
 }

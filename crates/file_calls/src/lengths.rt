@@ -1,4 +1,5 @@
 //! The calls that set the length of a file.
+//! Numbers and arguments are those of `arch/x86/entry/syscalls/syscall_32.tbl` and `arch/arm/tools/syscall.tbl`.
 
 ghost use Rattle.layout_laws.specs.Abis.{rules};
 ghost use Rattle.served_calls.specs.Calls.{ServesAlways, served};
@@ -12,17 +13,21 @@ use served_calls::{PATH_MAX, fetch_path};
 use user_memory::UserMemory;
 
 /// truncate(path, length), and truncate64
+///
+/// EFAULT and ENAMETOOLONG of the path; then the refusals of `Kernel::set_length_at`.
 #[tactic(auto, unfolding(crate::specs::Lengths::truncate))]
 pub fn truncate<A: Compat>(memory: &mut UserMemory, kernel: &mut Kernel, args: &Args) -> Answer<u32>
     ensures { ServesAlways result memory.new kernel.new (served (truncate (rules A.KIND A.ALIGN64) args.now) memory.old kernel.old) }
 {
     let mut room = [0; PATH_MAX];
     let path = fetch_path(memory, args.word(0), &mut room)?;
-    kernel.truncate(path, args.signed(1))?;
+    kernel.set_length_at(path, args.signed(1))?;
     Ok(0)
 }
 
 /// ftruncate(descriptor, length), and ftruncate64
+///
+/// The refusals of `Kernel::set_length`.
 #[tactic(auto, unfolding(crate::specs::Lengths::ftruncate))]
 pub fn ftruncate<A: Compat>(
     memory: &mut UserMemory,
@@ -31,11 +36,13 @@ pub fn ftruncate<A: Compat>(
 ) -> Answer<u32>
     ensures { ServesAlways result memory.new kernel.new (served (ftruncate (rules A.KIND A.ALIGN64) args.now) memory.old kernel.old) }
 {
-    kernel.truncate_open(args.signed(0), args.signed(1))?;
+    kernel.set_length(args.signed(0), args.signed(1))?;
     Ok(0)
 }
 
 /// fallocate(descriptor, mode, offset, length)
+///
+/// The refusals of `Kernel::allocate`.
 #[tactic(auto, unfolding(crate::specs::Lengths::fallocate))]
 pub fn fallocate<A: Compat>(
     memory: &mut UserMemory,

@@ -1,4 +1,4 @@
-//! The calls on files and descriptors: one function for each row.
+//! The calls on files, directories, pipes and descriptors: one function for each row.
 #![tactic(auto)]
 
 mod choice;
@@ -9,6 +9,7 @@ pub mod listings;
 pub mod locks;
 pub mod names;
 pub mod paths;
+pub mod pipes;
 pub mod retiming;
 pub mod status;
 #[cfg(test)]

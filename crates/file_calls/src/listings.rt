@@ -1,4 +1,5 @@
 //! The calls that list directories.
+//! Numbers and arguments are those of `arch/x86/entry/syscalls/syscall_32.tbl` and `arch/arm/tools/syscall.tbl`.
 
 ghost use Rattle.std.specs.Prelude.{◌≡◌, ◌<◌, ◌≤◌, length, pos, ok_or, replicate, IfOk, true, false};
 ghost use Rattle.kernel_values.specs.Outcome.{Gives, GivesAlways, GivesTold};
@@ -167,6 +168,9 @@ fn list_directory(
 }
 
 /// getdents(descriptor, buffer, count)
+///
+/// EBADF; ENOTDIR; of the first record EINVAL where it has no room, EOVERFLOW for its inode, EFAULT. Answers how
+/// many bytes the records stored have.
 pub fn getdents<A: Compat>(
     alloc: Global,
     memory: &mut UserMemory,
@@ -179,6 +183,9 @@ pub fn getdents<A: Compat>(
 }
 
 /// getdents64(descriptor, buffer, count)
+///
+/// EBADF; ENOTDIR; of the first record EINVAL where it has no room, EFAULT. Answers how many bytes the records
+/// stored have.
 pub fn getdents64<A: Compat>(
     alloc: Global,
     memory: &mut UserMemory,

@@ -1,4 +1,5 @@
 //! The commands of fcntl and fcntl64 on locks.
+//! Numbers and arguments are those of `arch/x86/entry/syscalls/syscall_32.tbl` and `arch/arm/tools/syscall.tbl`.
 
 ghost use Rattle.kernel_values.specs.Outcome.{Tells};
 ghost use Rattle.abi_registers.specs.Values.{word};
@@ -31,6 +32,8 @@ fn fetch_lock<A: Abi, T: Layout<A>>(
 }
 
 /// F_GETLK
+///
+/// EBADF; EFAULT; the refusals of `Kernel::find_lock`; EOVERFLOW for a start above 2^31 - 1; EFAULT.
 #[tactic(auto, unfolding(crate::specs::Locks::find_lock))]
 pub fn find_lock<A: Compat>(
     memory: &mut UserMemory,
@@ -46,6 +49,8 @@ pub fn find_lock<A: Compat>(
 }
 
 /// F_GETLK64
+///
+/// EBADF; EFAULT; the refusals of `Kernel::find_lock`; EFAULT.
 #[tactic(auto, unfolding(crate::specs::Locks::find_lock_64))]
 pub fn find_lock_64<A: Compat>(
     memory: &mut UserMemory,
@@ -61,6 +66,8 @@ pub fn find_lock_64<A: Compat>(
 }
 
 /// F_SETLK and F_SETLKW
+///
+/// EBADF; EFAULT; the refusals of `Kernel::set_lock`.
 #[tactic(auto, unfolding(crate::specs::Locks::set_lock))]
 pub fn set_lock<A: Compat>(
     alloc: Global,
@@ -76,6 +83,8 @@ pub fn set_lock<A: Compat>(
 }
 
 /// F_SETLK64 and F_SETLKW64
+///
+/// EBADF; EFAULT; the refusals of `Kernel::set_lock`.
 #[tactic(auto, unfolding(crate::specs::Locks::set_lock_64))]
 pub fn set_lock_64<A: Compat>(
     alloc: Global,

@@ -1,4 +1,5 @@
 //! The calls that make, remove and move names.
+//! Numbers and arguments are those of `arch/x86/entry/syscalls/syscall_32.tbl` and `arch/arm/tools/syscall.tbl`.
 
 ghost use Rattle.layout_laws.specs.Abis.{rules};
 ghost use Rattle.served_calls.specs.Calls.{Serves, ServesAlways, served};
@@ -17,6 +18,8 @@ use user_memory::UserMemory;
 const AT_REMOVEDIR: i64 = 0x200;
 
 /// mkdir(path, mode)
+///
+/// EFAULT and ENAMETOOLONG of the path; then the refusals of `Kernel::make_dir`.
 #[tactic(auto, unfolding(crate::specs::Names::mkdir))]
 pub fn mkdir<A: Compat>(
     alloc: Global,
@@ -33,6 +36,8 @@ pub fn mkdir<A: Compat>(
 }
 
 /// mkdirat(directory, path, mode)
+///
+/// EFAULT and ENAMETOOLONG of the path; then the refusals of `Kernel::make_dir`.
 #[tactic(auto, unfolding(crate::specs::Names::mkdirat))]
 pub fn mkdirat<A: Compat>(
     alloc: Global,
@@ -49,6 +54,8 @@ pub fn mkdirat<A: Compat>(
 }
 
 /// rmdir(path)
+///
+/// EFAULT and ENAMETOOLONG of the path; then the refusals of `Kernel::remove`.
 #[tactic(auto, unfolding(crate::specs::Names::rmdir))]
 pub fn rmdir<A: Compat>(memory: &mut UserMemory, kernel: &mut Kernel, args: &Args) -> Answer<u32>
     ensures { ServesAlways result memory.new kernel.new (served (rmdir (rules A.KIND A.ALIGN64) args.now) memory.old kernel.old) }
@@ -60,6 +67,8 @@ pub fn rmdir<A: Compat>(memory: &mut UserMemory, kernel: &mut Kernel, args: &Arg
 }
 
 /// unlink(path)
+///
+/// EFAULT and ENAMETOOLONG of the path; then the refusals of `Kernel::remove`.
 #[tactic(auto, unfolding(crate::specs::Names::unlink))]
 pub fn unlink<A: Compat>(memory: &mut UserMemory, kernel: &mut Kernel, args: &Args) -> Answer<u32>
     ensures { ServesAlways result memory.new kernel.new (served (unlink (rules A.KIND A.ALIGN64) args.now) memory.old kernel.old) }
@@ -71,6 +80,8 @@ pub fn unlink<A: Compat>(memory: &mut UserMemory, kernel: &mut Kernel, args: &Ar
 }
 
 /// unlinkat(directory, path, flags)
+///
+/// EFAULT and ENAMETOOLONG of the path; then the refusals of `Kernel::remove`.
 #[tactic(auto, unfolding(crate::specs::Names::unlinkat))]
 pub fn unlinkat<A: Compat>(memory: &mut UserMemory, kernel: &mut Kernel, args: &Args) -> Answer<u32>
     ensures { ServesAlways result memory.new kernel.new (served (unlinkat (rules A.KIND A.ALIGN64) args.now) memory.old kernel.old) }
@@ -82,6 +93,8 @@ pub fn unlinkat<A: Compat>(memory: &mut UserMemory, kernel: &mut Kernel, args: &
 }
 
 /// rename(old, new)
+///
+/// EFAULT and ENAMETOOLONG of the old path, then of the new one; then the refusals of `Kernel::rename`.
 #[tactic(auto, unfolding(crate::specs::Names::rename))]
 pub fn rename<A: Compat>(
     alloc: Global,

@@ -1,4 +1,5 @@
 //! The calls on paths.
+//! Numbers and arguments are those of `arch/x86/entry/syscalls/syscall_32.tbl` and `arch/arm/tools/syscall.tbl`.
 
 ghost use Rattle.layout_laws.specs.Abis.{rules};
 ghost use Rattle.served_calls.specs.Calls.{Serves, ServesAlways, served};
@@ -8,7 +9,7 @@ use abi_registers::Args;
 use kernel_values::{Answer, OpenFlags};
 use layout_laws::Compat;
 use native_kernel::Kernel;
-use served_calls::{PATH_MAX, fetch_path, low_word, store_bytes};
+use served_calls::{PATH_MAX, fetch_path, store_bytes};
 use std::alloc::Global;
 use user_memory::UserMemory;
 
@@ -16,6 +17,8 @@ use user_memory::UserMemory;
 pub(crate) const AT_FDCWD: i64 = -100;
 
 /// open(path, flags, mode)
+///
+/// EFAULT and ENAMETOOLONG of the path; then the refusals of `Kernel::open_by_path`. Answers the descriptor.
 #[tactic(auto, unfolding(crate::specs::Paths::open_path))]
 pub fn open_path<A: Compat>(
     alloc: Global,
@@ -29,10 +32,12 @@ pub fn open_path<A: Compat>(
     let path = fetch_path(memory, args.word(0), &mut room)?;
     let flags = OpenFlags::from_word(A::KIND, args.word(1));
     let fd = kernel.open_by_path(alloc, AT_FDCWD, path, flags, args.word(2))?;
-    Ok(low_word(fd))
+    Ok(fd)
 }
 
 /// openat(directory, path, flags, mode)
+///
+/// EFAULT and ENAMETOOLONG of the path; then the refusals of `Kernel::open_by_path`. Answers the descriptor.
 #[tactic(auto, unfolding(crate::specs::Paths::open_path_at))]
 pub fn open_path_at<A: Compat>(
     alloc: Global,
@@ -46,10 +51,12 @@ pub fn open_path_at<A: Compat>(
     let path = fetch_path(memory, args.word(1), &mut room)?;
     let flags = OpenFlags::from_word(A::KIND, args.word(2));
     let fd = kernel.open_by_path(alloc, args.signed(0), path, flags, args.word(3))?;
-    Ok(low_word(fd))
+    Ok(fd)
 }
 
 /// chdir(path)
+///
+/// EFAULT and ENAMETOOLONG of the path; then the refusals of `Kernel::change_dir`.
 #[tactic(auto, unfolding(crate::specs::Paths::chdir))]
 pub fn chdir<A: Compat>(memory: &mut UserMemory, kernel: &mut Kernel, args: &Args) -> Answer<u32>
     ensures { ServesAlways result memory.new kernel.new (served (chdir (rules A.KIND A.ALIGN64) args.now) memory.old kernel.old) }
@@ -61,6 +68,9 @@ pub fn chdir<A: Compat>(memory: &mut UserMemory, kernel: &mut Kernel, args: &Arg
 }
 
 /// getcwd(buffer, size)
+///
+/// ENAMETOOLONG; ERANGE; EFAULT where the text can't be stored whole. Answers how many bytes it has, with the zero
+/// at its end.
 #[tactic(auto, unfolding(crate::specs::Paths::getcwd))]
 pub fn getcwd<A: Compat>(
     alloc: Global,
@@ -72,5 +82,5 @@ pub fn getcwd<A: Compat>(
 {
     let text = kernel.current_dir(alloc, u64::from(args.word(1)))?;
     store_bytes(memory, args.word(0), text.as_slice())?;
-    Ok(low_word(text.len() as u64))
+    Ok(text.len() as u32)
 }

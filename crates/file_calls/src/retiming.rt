@@ -1,4 +1,5 @@
 //! The call that sets the times of a file.
+//! Numbers and arguments are those of `arch/x86/entry/syscalls/syscall_32.tbl` and `arch/arm/tools/syscall.tbl`.
 
 ghost use Rattle.layout_laws.specs.Abis.{rules};
 ghost use Rattle.served_calls.specs.Calls.{ServesAlways, served};
@@ -13,6 +14,8 @@ use time_layouts::FileTimes32;
 use user_memory::UserMemory;
 
 /// utimensat(directory, path, times, flags)
+///
+/// EFAULT and ENAMETOOLONG of the path, EFAULT of the times; then the refusals of `Kernel::set_times`.
 #[tactic(auto, unfolding(crate::specs::Retiming::utimensat))]
 pub fn utimensat<A: Compat>(
     memory: &mut UserMemory,

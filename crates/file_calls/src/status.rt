@@ -1,4 +1,5 @@
 //! The calls that tell the status of a file.
+//! Numbers and arguments are those of `arch/x86/entry/syscalls/syscall_32.tbl` and `arch/arm/tools/syscall.tbl`.
 
 ghost use Rattle.std.specs.Prelude.{◌≡◌};
 ghost use Rattle.layout_laws.specs.Abis.{rules};
@@ -15,6 +16,9 @@ use served_calls::{PATH_MAX, fetch_path, store_shape};
 use user_memory::UserMemory;
 
 /// stat(path, place)
+///
+/// EFAULT and ENAMETOOLONG of the path; then the refusals of `Kernel::status_at`; EOVERFLOW for a size, an inode or
+/// links above 2^31 - 1; EFAULT.
 #[tactic(auto, unfolding(crate::specs::Status::stat))]
 pub fn stat<A: Compat>(memory: &mut UserMemory, kernel: &mut Kernel, args: &Args) -> Answer<u32>
     ensures { ServesAlways result memory.new kernel.new (served (stat (rules A.KIND A.ALIGN64) args.now) memory.old kernel.old) }
@@ -27,6 +31,8 @@ pub fn stat<A: Compat>(memory: &mut UserMemory, kernel: &mut Kernel, args: &Args
 }
 
 /// fstat(descriptor, place)
+///
+/// EBADF; EOVERFLOW for a size, an inode or links above 2^31 - 1; EFAULT.
 #[tactic(auto, unfolding(crate::specs::Status::fstat))]
 pub fn fstat<A: Compat>(memory: &mut UserMemory, kernel: &mut Kernel, args: &Args) -> Answer<u32>
     ensures { ServesAlways result memory.new kernel.new (served (fstat (rules A.KIND A.ALIGN64) args.now) memory.old kernel.old) }
@@ -37,6 +43,8 @@ pub fn fstat<A: Compat>(memory: &mut UserMemory, kernel: &mut Kernel, args: &Arg
 }
 
 /// stat64(path, place)
+///
+/// EFAULT and ENAMETOOLONG of the path; then the refusals of `Kernel::status_at`; EFAULT.
 #[tactic(auto, unfolding(crate::specs::Status::stat64))]
 pub fn stat64<A: Compat>(memory: &mut UserMemory, kernel: &mut Kernel, args: &Args) -> Answer<u32>
     ensures { ServesAlways result memory.new kernel.new (served (stat64 (rules A.KIND A.ALIGN64) args.now) memory.old kernel.old) }
@@ -49,6 +57,8 @@ pub fn stat64<A: Compat>(memory: &mut UserMemory, kernel: &mut Kernel, args: &Ar
 }
 
 /// fstat64(descriptor, place)
+///
+/// EBADF; EFAULT.
 #[tactic(auto, unfolding(crate::specs::Status::fstat64))]
 pub fn fstat64<A: Compat>(memory: &mut UserMemory, kernel: &mut Kernel, args: &Args) -> Answer<u32>
     ensures { ServesAlways result memory.new kernel.new (served (fstat64 (rules A.KIND A.ALIGN64) args.now) memory.old kernel.old) }
@@ -59,6 +69,8 @@ pub fn fstat64<A: Compat>(memory: &mut UserMemory, kernel: &mut Kernel, args: &A
 }
 
 /// fstatat64(directory, path, place, flags)
+///
+/// EFAULT and ENAMETOOLONG of the path; then the refusals of `Kernel::status_at`; EFAULT.
 #[tactic(auto, unfolding(crate::specs::Status::fstatat64))]
 pub fn fstatat64<A: Compat>(
     memory: &mut UserMemory,

@@ -29,6 +29,8 @@ const ENOENT: i64 = -2;
 
 const EBADF: i64 = -9;
 
+const EAGAIN: i64 = -11;
+
 const EFAULT: i64 = -14;
 
 const EEXIST: i64 = -17;
@@ -90,6 +92,10 @@ const DUP3: FileOperation = FileOperation::Descriptor(DescriptorOperation::Dup3)
 const FCNTL: FileOperation = FileOperation::Descriptor(DescriptorOperation::Fcntl);
 
 const FCNTL64: FileOperation = FileOperation::Descriptor(DescriptorOperation::Fcntl64);
+
+const PIPE: FileOperation = FileOperation::Descriptor(DescriptorOperation::Pipe);
+
+const PIPE2: FileOperation = FileOperation::Descriptor(DescriptorOperation::Pipe2);
 
 const MKDIR: FileOperation = FileOperation::Name(NameOperation::Mkdir);
 
@@ -329,6 +335,26 @@ fn descriptors_are_copied(rt: HostRuntime) -> Result<(), Fail> {
         (FCNTL, [5, 1, 0, 0], 0),
     ];
     are_served::<Ia32>(&rt, rt.alloc(), &mut world, &calls);
+    Ok(())
+}
+
+#[test]
+fn a_pipe_is_made_where_its_descriptors_are_stored(rt: HostRuntime) -> Result<(), Fail> {
+    let mut world = start(rt.alloc()).ok_or("memory")?;
+    let calls = [
+        (PIPE, [0x3000, 0, 0, 0], EFAULT),
+        (PIPE2, [0x2000, 1, 0, 0], EINVAL),
+        (PIPE, [0x2000, 0, 0, 0], 0),
+        (WRITE, [1, 0x1000, 2, 0], 2),
+        (READ, [0, 0x2010, 5, 0], 2),
+        (READ, [0, 0x2010, 5, 0], EAGAIN),
+        (PIPE2, [0x2008, 0x80000, 0, 0], 0),
+        (FCNTL, [3, 1, 0, 0], 1),
+    ];
+    are_served::<Ia32>(&rt, rt.alloc(), &mut world, &calls);
+    are_stored(&rt, &world, 0x2000, &[0, 0, 0, 0, 1, 0, 0, 0]);
+    are_stored(&rt, &world, 0x2008, &[2, 0, 0, 0, 3, 0, 0, 0]);
+    are_stored(&rt, &world, 0x2010, b"/f\0\0\0\0\0\0");
     Ok(())
 }
 

@@ -1,6 +1,10 @@
 //! The calls that move bytes, and those that move positions.
+//! Numbers and arguments are those of `arch/x86/entry/syscalls/syscall_32.tbl` and `arch/arm/tools/syscall.tbl`.
 
-ghost use Rattle.std.specs.Prelude.{◌≡◌};
+ghost use Rattle.std.specs.Prelude.{◌≡◌, ◌<◌, ◌^◌, true, length, Ok};
+ghost use Rattle.kernel_values.specs.Outcome.{OnOutOfMemory};
+ghost use Rattle.user_memory.specs.Memory.{is_writable};
+ghost use Rattle.file_store.specs.Transfers.{MovesBytes};
 ghost use Rattle.layout_laws.specs.Abis.{rules};
 ghost use Rattle.served_calls.specs.Calls.{Delivers, Serves, ServesAlways, served};
 ghost use Rattle.file_calls.specs.Transfers.{gives_bytes, gives_position, halves, llseek, lseek, pread64, pwrite64, read, write};
@@ -14,15 +18,21 @@ use served_calls::{fetch_data, low_word, room, store_bytes, store_shape, transfe
 use std::alloc::Global;
 use user_memory::UserMemory;
 
-/// Stores the bytes of a read, and tells how many they are.
-fn give_bytes(memory: &mut UserMemory, at: u32, bytes: &[u8]) -> Result<u32, Errno>
-    ensures { Delivers result memory.new (gives_bytes at bytes.now memory.old) }
+/// Stores the bytes of a read where there is room for them, and tells how many they are.
+#[tactic(auto, unfolding(served_calls::specs::Bytes::stores_bytes))]
+fn give_bytes(memory: &mut UserMemory, at: u32, bytes: &[u8]) -> u32
+    requires room { is_writable memory.old at (length bytes.now) ≡ true }
+    requires few { length bytes.now < 2 ^ 32 }
+    ensures { gives_bytes at bytes.now memory.old ≡ (Ok result, memory.new) }
 {
-    store_bytes(memory, at, bytes)?;
-    Ok(low_word(bytes.len() as u64))
+    let stored = store_bytes(memory, at, bytes).is_ok();
+    prove!(stored);
+    bytes.len() as u32
 }
 
 /// read(descriptor, buffer, count)
+///
+/// The refusals of `Kernel::read`. At most 0x7ffff000 bytes; answers how many. Memory may be wanting only where bytes move.
 #[tactic(auto, unfolding(crate::specs::Transfers::read))]
 pub fn read<A: Compat>(
     alloc: Global,
@@ -30,7 +40,8 @@ pub fn read<A: Compat>(
     kernel: &mut Kernel,
     args: &Args,
 ) -> Answer<u32>
-    ensures { Serves result memory.new kernel.new (served (read (rules A.KIND A.ALIGN64) args.now) memory.old kernel.old) }
+    ensures serves { Serves result memory.new kernel.new (served (read (rules A.KIND A.ALIGN64) args.now) memory.old kernel.old) }
+    ensures moves { OnOutOfMemory result (MovesBytes (read (rules A.KIND A.ALIGN64) args.now memory.old kernel.old).operation.0) }
 {
     let count = transfer_count(args.word(2));
     let most = room(memory, args.word(1), count);
@@ -41,11 +52,12 @@ pub fn read<A: Compat>(
         u64::from(most),
         Place::Current,
     )?;
-    let told = give_bytes(memory, args.word(1), bytes.as_slice())?;
-    Ok(told)
+    Ok(give_bytes(memory, args.word(1), bytes.as_slice()))
 }
 
 /// pread64(descriptor, buffer, count, offset)
+///
+/// The refusals of `Kernel::read`. At most 0x7ffff000 bytes; answers how many. Memory may be wanting only where bytes move.
 #[tactic(auto, unfolding(crate::specs::Transfers::pread64))]
 pub fn pread64<A: Compat>(
     alloc: Global,
@@ -53,7 +65,8 @@ pub fn pread64<A: Compat>(
     kernel: &mut Kernel,
     args: &Args,
 ) -> Answer<u32>
-    ensures { Serves result memory.new kernel.new (served (pread64 (rules A.KIND A.ALIGN64) args.now) memory.old kernel.old) }
+    ensures serves { Serves result memory.new kernel.new (served (pread64 (rules A.KIND A.ALIGN64) args.now) memory.old kernel.old) }
+    ensures moves { OnOutOfMemory result (MovesBytes (pread64 (rules A.KIND A.ALIGN64) args.now memory.old kernel.old).operation.0) }
 {
     let count = transfer_count(args.word(2));
     let most = room(memory, args.word(1), count);
@@ -65,11 +78,12 @@ pub fn pread64<A: Compat>(
         u64::from(most),
         place,
     )?;
-    let told = give_bytes(memory, args.word(1), bytes.as_slice())?;
-    Ok(told)
+    Ok(give_bytes(memory, args.word(1), bytes.as_slice()))
 }
 
 /// write(descriptor, buffer, count)
+///
+/// The refusals of `Kernel::write`. At most 0x7ffff000 bytes; answers how many.
 #[tactic(auto, unfolding(crate::specs::Transfers::write))]
 pub fn write<A: Compat>(
     alloc: Global,
@@ -88,10 +102,12 @@ pub fn write<A: Compat>(
         &piece,
         Place::Current,
     )?;
-    Ok(low_word(written))
+    Ok(written as u32)
 }
 
 /// pwrite64(descriptor, buffer, count, offset)
+///
+/// The refusals of `Kernel::write`. At most 0x7ffff000 bytes; answers how many.
 #[tactic(auto, unfolding(crate::specs::Transfers::pwrite64))]
 pub fn pwrite64<A: Compat>(
     alloc: Global,
@@ -105,7 +121,7 @@ pub fn pwrite64<A: Compat>(
     let piece = fetch_data(alloc, memory, args.word(1), count)?;
     let place = Place::At(args.signed(3));
     let written = kernel.write(alloc, args.signed(0), u64::from(count), &piece, place)?;
-    Ok(low_word(written))
+    Ok(written as u32)
 }
 
 /// A position as a result word. EOVERFLOW above 2^31 - 1.
@@ -119,6 +135,8 @@ fn position_word(memory: &mut UserMemory, position: i64) -> Result<u32, Errno>
 }
 
 /// lseek(descriptor, offset, whence)
+///
+/// The refusals of `Kernel::seek`; EOVERFLOW above 2^31 - 1, and the position has moved. Answers it.
 #[tactic(auto, unfolding(crate::specs::Transfers::lseek))]
 pub fn lseek<A: Compat>(memory: &mut UserMemory, kernel: &mut Kernel, args: &Args) -> Answer<u32>
     ensures { ServesAlways result memory.new kernel.new (served (lseek (rules A.KIND A.ALIGN64) args.now) memory.old kernel.old) }
@@ -137,6 +155,8 @@ fn halves(high: u32, low: u32) -> i64
 }
 
 /// _llseek(descriptor, high, low, result, whence)
+///
+/// The refusals of `Kernel::seek`; EFAULT, and the position has moved. Stores it in 8 bytes.
 #[tactic(auto, unfolding(crate::specs::Transfers::llseek))]
 pub fn llseek<A: Compat>(memory: &mut UserMemory, kernel: &mut Kernel, args: &Args) -> Answer<u32>
     ensures { ServesAlways result memory.new kernel.new (served (llseek (rules A.KIND A.ALIGN64) args.now) memory.old kernel.old) }

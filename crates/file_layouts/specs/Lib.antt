@@ -1,4 +1,6 @@
+pub mod Descriptors
 pub mod Directories
 pub mod Locks
 pub mod Positions
 pub mod Stats
+pub mod Tables

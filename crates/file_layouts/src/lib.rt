@@ -1,6 +1,7 @@
 //! What calls on files store for 32-bit processes, by the Linux UAPI headers for i386 and arm.
 #![tactic(auto)]
 
+pub mod descriptors;
 pub mod directories;
 pub mod locks;
 pub mod positions;
@@ -8,6 +9,7 @@ pub mod stat;
 pub mod stat64;
 mod words;
 
+pub use descriptors::DescriptorPair;
 pub use directories::{DirentFault, dirent_length, put_dirent};
 pub use locks::{Lock32, Lock64};
 pub use positions::Position64;

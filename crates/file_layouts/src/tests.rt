@@ -1,4 +1,4 @@
-use crate::{DirentFault, Lock32, Lock64, Position64, Stat32, Stat64, put_dirent};
+use crate::{DescriptorPair, DirentFault, Lock32, Lock64, Position64, Stat32, Stat64, put_dirent};
 use kernel_values::{DirEntry, Lock, NameText, Stat, TimeSpec};
 use layout_laws::{Abi, ArmEabi, Ia32, Layout, StoreFault, fetch, store};
 use std::process::Abort;
@@ -104,6 +104,19 @@ fn positions_have_eight_bytes(rt: HostRuntime) -> Result<(), Fail> {
     let read = stored::<ArmEabi, Position64, HostRuntime>(&rt, &position, &mut bytes)?;
     assert_eq!(rt; bytes, [0xfe, 0xff, 0xff, 0xff, 0xff, 0xff, 0xff, 0xff]);
     assert_eq!(rt; read, position);
+    Ok(())
+}
+
+#[test]
+fn descriptors_have_four_bytes_each(rt: HostRuntime) -> Result<(), Fail> {
+    let mut bytes = [0; 8];
+    let pair = DescriptorPair {
+        first: 3,
+        second: 0x102,
+    };
+    let read = stored::<ArmEabi, DescriptorPair, HostRuntime>(&rt, &pair, &mut bytes)?;
+    assert_eq!(rt; bytes, [3, 0, 0, 0, 2, 1, 0, 0]);
+    assert_eq!(rt; read, pair);
     Ok(())
 }
 

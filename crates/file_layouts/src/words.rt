@@ -8,7 +8,7 @@ ghost use Rattle.file_layouts.specs.Locks.{lock_from, lock_row};
 use kernel_values::{Lock, Stat, TimeSpec};
 
 /// The low 32 bits of a word.
-fn low_half(word: u64) -> u32
+pub(crate) fn low_half(word: u64) -> u32
     ensures { result ≡ word % 2 ^ 32 }
 {
     (word % 0x1_0000_0000) as u32

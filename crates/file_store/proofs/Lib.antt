@@ -1,13 +1,4 @@
-pub mod Slashes
-pub mod FreeNumbers
-pub mod Holdings
-pub mod Texts
-pub mod Slots
-pub mod SlabSteps
-pub mod Ordered
-pub mod Lines
 pub mod Moves
 pub mod Closings
 pub mod FileItems
-pub mod Insides
-pub mod Links
+pub mod Pipings

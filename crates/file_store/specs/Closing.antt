@@ -1,7 +1,7 @@
 -- What becomes of descriptors when a process ends.
 use Rattle.std.specs.Prelude.{ℕ, zero, suc, List, [], ◌∷◌, length}
 use Rattle.file_store.specs.Descriptors.{closed}
-use Rattle.file_store.specs.declared.state.Descriptor.{Descriptor}
+use Rattle.file_tables.specs.declared.state.Descriptor.{Descriptor}
 use Rattle.file_store.specs.declared.state.Files.{Files}
 
 -- the lowest descriptor is closed, where there is one

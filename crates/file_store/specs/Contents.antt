@@ -1,7 +1,7 @@
 -- The bytes of files, by inode number.
 use Rattle.std.specs.Prelude.{ℕ, Bool, false, nat_le, length, List, [], Option, Some, None, unwrap_or}
 use Rattle.file_bytes.specs.Row.{written}
-use Rattle.file_store.specs.Table.{at, changed}
+use Rattle.number_maps.specs.NumberMap.{at, changed}
 
 -- an inode that has no bytes of its own, as a directory, has none
 abbrev pub content_of : List (ℕ × List ℕ) → ℕ → List ℕ

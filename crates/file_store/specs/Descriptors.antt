@@ -1,23 +1,22 @@
 -- What each call does with descriptors and open files.
-use Rattle.std.specs.Prelude.{ℕ, zero, suc, ℤ, pos, negsuc, ◌-◌, ◌+ℤ◌, ◌^◌, ◌==◌, ◌%◌, ◌&&◌, ◌||◌, Bool, true, false, not, nat_lt, nat_le, int_le, length, Option, Some, None, ok_or, Result, Ok, Err, ⊤, if◌then◌else◌}
+use Rattle.std.specs.Prelude.{ℕ, zero, suc, ℤ, pos, negsuc, ◌-◌, ◌+ℤ◌, ◌^◌, ◌==◌, ◌%◌, ◌&&◌, ◌||◌, Bool, false, not, nat_lt, nat_le, int_le, length, Option, Some, None, ok_or, Result, Ok, Err, ⊤, if◌then◌else◌}
 use Rattle.kernel_values.specs.Outcome.{◌>>=◌, ◌>>◌, refused_if, settled}
 use Rattle.kernel_values.specs.OpenFlags.{can_read, can_write, with_status}
 use Rattle.kernel_values.specs.declared.errno.Errno.{Errno}
 use Rattle.kernel_values.specs.declared.errno.Errno.TheVariants.{BadDescriptor, IllegalSeek, InvalidArgument, TableFull, TooManyDescriptors}
-use Rattle.kernel_values.specs.declared.items.OpenKind.{OpenKind}
-use Rattle.kernel_values.specs.declared.items.OpenKind.TheVariants.{File, Directory, PipeRead, PipeWrite}
 use Rattle.kernel_values.specs.declared.open_flags.OpenFlags.{OpenFlags}
-use Rattle.file_store.specs.Table.{at, first_free, put, removed}
+use Rattle.number_maps.specs.NumberMap.{at, first_free, put, removed}
+use Rattle.file_tables.specs.Kinds.{is_of_directory, is_of_pipe}
 use Rattle.file_store.specs.Releasing.{released, without_locks}
-use Rattle.file_store.specs.Made.{is_full, one_opened}
+use Rattle.file_tables.specs.Made.{is_full, one_opened}
 use Rattle.file_store.specs.Contents.{content_of}
-use Rattle.file_store.specs.declared.state.Descriptor.{Descriptor}
-use Rattle.file_store.specs.declared.state.OpenFile.{OpenFile}
+use Rattle.file_tables.specs.declared.state.Descriptor.{Descriptor}
+use Rattle.file_tables.specs.declared.state.OpenFile.{OpenFile}
 use Rattle.file_store.specs.declared.state.Files.{Files}
 
--- no descriptor is below 0
+-- no descriptor is below 0, and none above 2^32 - 1
 unfoldable pub number_of : ℤ → Result ℕ Errno
-number_of (pos n) = Ok n
+number_of (pos n) = if nat_lt n (2 ^ 32) then Ok n else Err BadDescriptor
 number_of (negsuc n) = Err BadDescriptor
 
 -- the number and the descriptor
@@ -33,27 +32,6 @@ open_file s fd = do
   d ← descriptor_of s fd
   f ← ok_or (at s.open_files d.1.serial) BadDescriptor
   Ok (d.1.serial, f)
-
--- an open file is of a directory
-abbrev pub is_of_directory : OpenKind → Bool
-is_of_directory File = false
-is_of_directory Directory = true
-is_of_directory PipeRead = false
-is_of_directory PipeWrite = false
-
--- an open file is an end of a pipe
-abbrev pub is_of_pipe : OpenKind → Bool
-is_of_pipe File = false
-is_of_pipe Directory = false
-is_of_pipe PipeRead = true
-is_of_pipe PipeWrite = true
-
--- an open file is of a file with bytes
-abbrev pub is_of_file : OpenKind → Bool
-is_of_file File = true
-is_of_file Directory = false
-is_of_file PipeRead = false
-is_of_file PipeWrite = false
 
 -- how many bytes the file has
 abbrev pub content_size : Files → OpenFile → ℕ

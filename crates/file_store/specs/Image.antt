@@ -1,18 +1,19 @@
 -- The state at first, and what the image puts into it.
-use Rattle.std.specs.Prelude.{ℕ, pos, negsuc, ◌+◌, ◌^◌, ◌==◌, ◌&&◌, Bool, true, false, not, nat_lt, is_some, length, replicate, List, [], ◌∷◌, Option, Some, None, Result, Ok, Err, ⊤}
+use Rattle.std.specs.Prelude.{ℕ, pos, ◌+◌, ◌^◌, ◌==◌, ◌&&◌, Bool, true, false, not, nat_lt, is_some, length, replicate, List, [], ◌∷◌, Option, Some, None, Result, Ok, Err, ⊤}
 use Rattle.kernel_values.specs.Outcome.{◌>>=◌, ◌>>◌, refused_if, settled}
 use Rattle.kernel_values.specs.declared.errno.Errno.{Errno}
 use Rattle.kernel_values.specs.declared.errno.Errno.TheVariants.{FileTooLarge}
 use Rattle.kernel_values.specs.declared.times.TimeSpec.{TimeSpec}
-use Rattle.file_store.specs.Table.{at, put}
+use Rattle.number_maps.specs.NumberMap.{at, put}
 use Rattle.file_store.specs.Contents.{reaches}
-use Rattle.file_store.specs.Directories.{entry_at}
-use Rattle.file_store.specs.Made.{more_made}
-use Rattle.file_store.specs.Paths.{resolve, resolve_parent}
-use Rattle.file_store.specs.Making.{empty_directory, with_name}
+use Rattle.file_tables.specs.Directories.{entry_at}
+use Rattle.file_tables.specs.Made.{more_made}
+use Rattle.file_store.specs.Paths.{at_fdcwd, resolve, resolve_parent}
+use Rattle.file_tables.specs.Contained.{empty_directory}
+use Rattle.file_store.specs.Making.{with_name}
 use Rattle.file_store.specs.Transfers.{with_bytes}
 use Rattle.file_store.specs.declared.state.Files.{Files}
-use Rattle.file_store.specs.declared.state.Node.{Node}
+use Rattle.file_tables.specs.declared.state.Node.{Node}
 
 -- the time at which the image was made
 abbrev pub no_time : TimeSpec
@@ -33,6 +34,7 @@ fresh_files = record {
   nodes = (2, image_node 0x41ed) ∷ [];
   directories = (2, empty_directory 2) ∷ [];
   contents = [];
+  pipes = [];
   own_locks = [];
   foreign_locks = [];
   numbers = record { image = []; next = 0x1000 };
@@ -67,27 +69,27 @@ with_image_file s l inode size =
 -- the image has a directory at a path from the root
 abbrev pub image_directory : Files → List ℕ → ℕ → Result ⊤ Errno × Files
 image_directory s path inode = settled s (do
-  l ← resolve_parent s (negsuc 99) path
+  l ← resolve_parent s at_fdcwd path
   Ok (tt, with_image_directory s l inode))
 
 -- the image has a file at a path, of so many zeros
 abbrev pub image_file : Files → List ℕ → ℕ → ℕ → Result ⊤ Errno × Files
 image_file s path inode size = settled s (do
   refused_if (nat_lt (2 ^ 40) size) FileTooLarge
-  l ← resolve_parent s (negsuc 99) path
+  l ← resolve_parent s at_fdcwd path
   Ok (tt, with_image_file s l inode size))
 
 -- a file of the image has other bytes from a place on; its times stay
 abbrev pub image_bytes : Files → List ℕ → ℕ → List ℕ → Result ⊤ Errno × Files
 image_bytes s path offset bytes = settled s (do
   refused_if (nat_lt (2 ^ 40) (offset + length bytes)) FileTooLarge
-  i ← resolve s (negsuc 99) path
+  i ← resolve s at_fdcwd path
   Ok (tt, with_bytes s i offset bytes))
 
 -- what the last name of a path means, if it is there
 unfoldable pub image_entry : Files → List ℕ → Result (Option ℕ) Errno
 image_entry s path = do
-  l ← resolve_parent s (negsuc 99) path
+  l ← resolve_parent s at_fdcwd path
   entry_at s.directories l.0 l.1
 
 -- a name that could be made: the steps to it succeed, its place is a directory, and it isn't there
@@ -111,4 +113,4 @@ file_reaches s (Ok i) end = reaches (at s.contents i) end
 
 -- a path means a file whose bytes reach so far
 unfoldable pub has_bytes : Files → List ℕ → ℕ → ℕ → Bool
-has_bytes s path offset count = file_reaches s (resolve s (negsuc 99) path) (offset + count)
+has_bytes s path offset count = file_reaches s (resolve s at_fdcwd path) (offset + count)

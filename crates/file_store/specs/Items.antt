@@ -1,18 +1,18 @@
--- What is told of files, directories, locks, open files and descriptors, item by item, and what of it is left at a cursor.
+-- What is told of files, directories, locks, descriptors, open files and pipes, item by item, and what of it is left at a cursor.
 use Rattle.std.specs.Prelude.{ℕ, ◌==◌, List, [], ◌∷◌, ◌++◌, drop, length, map, Option, Some, None, if◌then◌else◌}
 use Rattle.kernel_values.specs.declared.items.StateItem.{StateItem}
 use Rattle.kernel_values.specs.declared.items.StateItem.TheVariants as item
 use Rattle.file_bytes.specs.Runs.{runs_from}
-use Rattle.file_store.specs.Table.{after, at}
+use Rattle.number_maps.specs.NumberMap.{after, at}
 use Rattle.file_store.specs.Contents.{content_of}
-use Rattle.file_store.specs.Directories.{is_directory}
-use Rattle.file_store.specs.Locks.{locks_on}
+use Rattle.file_tables.specs.Directories.{is_directory}
+use Rattle.file_store.specs.Locks.{is_of_writers, locks_on}
 use Rattle.record_locks.specs.declared.state.OwnLock.{OwnLock}
-use Rattle.file_store.specs.declared.state.Descriptor.{Descriptor}
-use Rattle.file_store.specs.declared.state.Directory.{Directory}
-use Rattle.file_store.specs.declared.state.Entry.{Entry}
-use Rattle.file_store.specs.declared.state.Node.{Node}
-use Rattle.file_store.specs.declared.state.OpenFile.{OpenFile}
+use Rattle.file_tables.specs.declared.state.Descriptor.{Descriptor}
+use Rattle.file_tables.specs.declared.state.Directory.{Directory}
+use Rattle.file_tables.specs.declared.state.Entry.{Entry}
+use Rattle.file_tables.specs.declared.state.Node.{Node}
+use Rattle.file_tables.specs.declared.state.OpenFile.{OpenFile}
 use Rattle.file_store.specs.declared.state.Files.{Files}
 use Rattle.file_store.specs.declared.items.FileCursor.{FileCursor}
 use Rattle.file_store.specs.declared.items.FileCursor.TheVariants as cursor
@@ -31,7 +31,7 @@ bytes_item inode run = item.Bytes inode run.0 run.1
 
 -- a lock of the process
 abbrev pub lock_item : ℕ → OwnLock → StateItem
-lock_item inode l = item.Lock inode l.write l.first l.last
+lock_item inode l = item.Lock inode (is_of_writers l.kind) l.first l.last
 
 abbrev pub descriptor_item : ℕ × Descriptor → StateItem
 descriptor_item entry = item.Descriptor entry.0 entry.1.serial entry.1.cloexec
@@ -54,9 +54,17 @@ nodes_before s [] later = later
 nodes_before s (e ∷ es) later = node_item s e ∷ (map (name_item e.0) (names_in s e.0) ++ (map (bytes_item e.0) (runs_from (content_of s.contents e.0) 0)
     ++ (map (lock_item e.0) (locks_on s.own_locks e.0) ++ nodes_before s es later)))
 
--- What is left of a part is followed by all of the later parts. The last part: open files by serial number.
+-- a pipe and the bytes that wait in it
+abbrev pub pipe_item : ℕ × List ℕ → StateItem
+pipe_item entry = item.Pipe entry.0 entry.1
+
+-- What is left of a part is followed by all of the later parts. The last part: pipes by inode number.
+abbrev pub pipes_left : Files → Option ℕ → List StateItem
+pipes_left s last = map pipe_item (after s.pipes last)
+
+-- open files by serial number
 abbrev pub open_left : Files → Option ℕ → List StateItem
-open_left s last = map open_item (after s.open_files last)
+open_left s last = map open_item (after s.open_files last) ++ pipes_left s None
 
 -- descriptors by number
 abbrev pub descriptors_left : Files → Option ℕ → List StateItem
@@ -94,6 +102,7 @@ files_left s (cursor.Bytes inode offset) = bytes_left s inode offset
 files_left s (cursor.Locks inode count) = locks_left s inode count
 files_left s (cursor.Descriptors last) = descriptors_left s last
 files_left s (cursor.OpenFiles last) = open_left s last
+files_left s (cursor.Pipes last) = pipes_left s last
 
 -- all items of files, in the order of a report
 abbrev pub file_items : Files → List StateItem

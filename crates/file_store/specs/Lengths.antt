@@ -6,12 +6,13 @@ use Rattle.kernel_values.specs.declared.errno.Errno.{Errno}
 use Rattle.kernel_values.specs.declared.errno.Errno.TheVariants.{BadDescriptor, FileTooLarge, IllegalSeek, InvalidArgument, IsDirectory, NoDevice, OperationNotSupported}
 use Rattle.kernel_values.specs.declared.times.TimeSpec.{TimeSpec}
 use Rattle.file_bytes.specs.Row.{resized}
-use Rattle.file_store.specs.Table.{at, changed}
+use Rattle.number_maps.specs.NumberMap.{at, changed}
 use Rattle.file_store.specs.Contents.{content_of}
-use Rattle.file_store.specs.Descriptors.{is_of_directory, is_of_file, is_of_pipe, open_file}
-use Rattle.file_store.specs.Directories.{is_directory}
-use Rattle.file_store.specs.Making.{touched}
-use Rattle.file_store.specs.Paths.{resolve}
+use Rattle.file_store.specs.Descriptors.{open_file}
+use Rattle.file_tables.specs.Kinds.{is_of_directory, is_of_file, is_of_pipe}
+use Rattle.file_tables.specs.Directories.{is_directory}
+use Rattle.file_tables.specs.Nodes.{touched}
+use Rattle.file_store.specs.Paths.{at_fdcwd, resolve}
 use Rattle.file_store.specs.declared.state.Files.{Files}
 
 -- no file has a length below 0, or above 2^40
@@ -38,7 +39,7 @@ with_length s now inode n = record s {
 abbrev pub truncate : Files → TimeSpec → List ℕ → ℤ → Result ⊤ Errno × Files
 truncate s now path wanted = settled s (do
   n ← length_of wanted
-  i ← resolve s (negsuc 99) path
+  i ← resolve s at_fdcwd path
   refused_if (is_directory s.directories i) IsDirectory
   Ok (tt, with_length s now i n))
 

@@ -11,12 +11,15 @@ use Rattle.record_locks.specs.Own.{relocked}
 use Rattle.record_locks.specs.Ranges.{byte_range, lock_kind}
 use Rattle.record_locks.specs.declared.state.ByteRange.{ByteRange}
 use Rattle.record_locks.specs.declared.state.ForeignLock.{ForeignLock}
+use Rattle.record_locks.specs.declared.state.LockKind.{LockKind}
+use Rattle.record_locks.specs.declared.state.LockKind.TheVariants.{Read, Write}
 use Rattle.record_locks.specs.declared.state.OwnLock.{OwnLock}
-use Rattle.file_store.specs.Table.{at, changed, put}
-use Rattle.file_store.specs.Descriptors.{is_of_file, open_file, seek_base}
-use Rattle.file_store.specs.Paths.{resolve}
+use Rattle.number_maps.specs.NumberMap.{at, changed, put}
+use Rattle.file_store.specs.Descriptors.{open_file, seek_base}
+use Rattle.file_tables.specs.Kinds.{is_of_file}
+use Rattle.file_store.specs.Paths.{at_fdcwd, resolve}
 use Rattle.file_store.specs.declared.state.Files.{Files}
-use Rattle.file_store.specs.declared.state.OpenFile.{OpenFile}
+use Rattle.file_tables.specs.declared.state.OpenFile.{OpenFile}
 
 -- the locks that the process has on a file
 abbrev pub locks_on : List (ℕ × List OwnLock) → ℕ → List OwnLock
@@ -34,9 +37,9 @@ lock_bytes s f l = do
   byte_range base l.start l.length
 
 -- F_GETLK asks for a lock
-abbrev pub asked_kind : Option Bool → Result Bool Errno
+abbrev pub asked_kind : Option LockKind → Result LockKind Errno
 asked_kind None = Err InvalidArgument
-asked_kind (Some write) = Ok write
+asked_kind (Some kind) = Ok kind
 
 -- the lock in the way is told; where there is none, the lock as it was given, unlocked (F_UNLCK, 2)
 abbrev pub found : Lock → Option ForeignLock → Lock
@@ -48,23 +51,23 @@ unfoldable pub find_lock : Files → ℤ → Lock → Result Lock Errno
 find_lock s fd l = do
   f ← open_file s fd
   refused_if (not (is_of_file f.1.kind)) InvalidArgument
-  kind ← lock_kind l.kind
-  write ← asked_kind kind
+  wanted ← lock_kind l.kind
+  kind ← asked_kind wanted
   r ← lock_bytes s f.1 l
-  Ok (found l (obstacle s.foreign_locks f.1.inode (Some write) r))
+  Ok (found l (obstacle s.foreign_locks f.1.inode (Some kind) r))
 
 -- a lock of readers needs read access, one of writers write access, and unlocking none
-abbrev pub may_set : OpenFlags → Option Bool → Bool
+abbrev pub may_set : OpenFlags → Option LockKind → Bool
 may_set flags None = true
-may_set flags (Some true) = can_write flags
-may_set flags (Some false) = can_read flags
+may_set flags (Some Write) = can_write flags
+may_set flags (Some Read) = can_read flags
 
 -- bytes of a file have another lock of the process, or none
-abbrev pub relocked_as : List (ℕ × List OwnLock) → ℕ → Option Bool → ByteRange → Option (List OwnLock) → List (ℕ × List OwnLock)
+abbrev pub relocked_as : List (ℕ × List OwnLock) → ℕ → Option LockKind → ByteRange → Option (List OwnLock) → List (ℕ × List OwnLock)
 relocked_as own inode wanted r None = put own inode (relocked [] wanted r)
 relocked_as own inode wanted r (Some locks) = changed own inode (relocked locks wanted r)
 
-unfoldable pub locked : List (ℕ × List OwnLock) → ℕ → Option Bool → ByteRange → List (ℕ × List OwnLock)
+unfoldable pub locked : List (ℕ × List OwnLock) → ℕ → Option LockKind → ByteRange → List (ℕ × List OwnLock)
 locked own inode wanted r = relocked_as own inode wanted r (at own inode)
 
 -- F_SETLK and F_SETLKW, which doesn't wait either
@@ -78,9 +81,18 @@ set_lock s fd l = settled s (do
   refused_if (is_some (obstacle s.foreign_locks f.1.inode wanted r)) TryAgain
   Ok (tt, record s { own_locks = locked s.own_locks f.1.inode wanted r }))
 
+-- whether a lock is of writers, as an item tells it, and the kind of one that the image gives so
+abbrev pub is_of_writers : LockKind → Bool
+is_of_writers Read = false
+is_of_writers Write = true
+
+abbrev pub image_kind : Bool → LockKind
+image_kind true = Write
+image_kind false = Read
+
 -- the image has a lock of another process on a file; EOVERFLOW where it reaches past 2^63 - 1
 abbrev pub image_lock : Files → List ℕ → Bool → ℕ → ℕ → ℕ → Result ⊤ Errno × Files
 image_lock s path write start count pid = settled s (do
-  i ← resolve s (negsuc 99) path
-  f ← foreign_lock i write start count pid
+  i ← resolve s at_fdcwd path
+  f ← foreign_lock i (image_kind write) start count pid
   Ok (tt, record s { foreign_locks = s.foreign_locks ++ f ∷ [] }))

@@ -3,11 +3,13 @@ use Rattle.std.specs.Prelude.{ℕ, ℤ, ◌+◌, ◌%◌, List, is_some, Result,
 use Rattle.kernel_values.specs.Outcome.{◌>>=◌, ◌>>◌, refused_if, settled}
 use Rattle.kernel_values.specs.declared.errno.Errno.{Errno}
 use Rattle.kernel_values.specs.declared.errno.Errno.TheVariants.{Exists, TableFull}
-use Rattle.file_store.specs.Table.{put}
-use Rattle.file_store.specs.Made.{is_full, more_made}
-use Rattle.file_store.specs.Directories.{last_entry}
+use Rattle.number_maps.specs.NumberMap.{put}
+use Rattle.file_tables.specs.Made.{is_full, more_made}
+use Rattle.file_tables.specs.Directories.{last_entry}
 use Rattle.file_store.specs.Paths.{resolve_parent}
-use Rattle.file_store.specs.Making.{empty_directory, given, made_node, new_number, with_name}
+use Rattle.file_tables.specs.Contained.{empty_directory}
+use Rattle.file_tables.specs.Numbers.{given, new_number}
+use Rattle.file_store.specs.Making.{made_node, with_name}
 use Rattle.file_store.specs.declared.state.Files.{Files}
 use Rattle.file_store.specs.declared.state.Maker.{Maker}
 

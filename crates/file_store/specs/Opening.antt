@@ -7,17 +7,18 @@ use Rattle.kernel_values.specs.declared.errno.Errno.TheVariants.{Exists, Invalid
 use Rattle.kernel_values.specs.declared.items.OpenKind.{OpenKind}
 use Rattle.kernel_values.specs.declared.items.OpenKind.TheVariants.{File, Directory}
 use Rattle.kernel_values.specs.declared.open_flags.OpenFlags.{OpenFlags}
-use Rattle.file_store.specs.Table.{first_free, put}
-use Rattle.file_store.specs.Made.{is_full, more_made}
-use Rattle.file_store.specs.Names.{ends_with_slash}
-use Rattle.file_store.specs.Directories.{is_directory, last_entry}
+use Rattle.number_maps.specs.NumberMap.{first_free, put}
+use Rattle.file_tables.specs.Made.{is_full, more_made}
+use Rattle.file_tables.specs.Names.{ends_with_slash}
+use Rattle.file_tables.specs.Directories.{is_directory, last_entry}
 use Rattle.file_store.specs.Contents.{content_of}
 use Rattle.file_store.specs.Descriptors.{installed}
 use Rattle.file_store.specs.Paths.{resolve_parent}
-use Rattle.file_store.specs.Making.{file_mode, given, made_node, new_number, with_name}
+use Rattle.file_store.specs.Making.{file_mode, made_node, with_name}
+use Rattle.file_tables.specs.Numbers.{given, new_number}
 use Rattle.file_store.specs.declared.state.Files.{Files}
 use Rattle.file_store.specs.declared.state.Maker.{Maker}
-use Rattle.file_store.specs.declared.state.OpenFile.{OpenFile}
+use Rattle.file_tables.specs.declared.state.OpenFile.{OpenFile}
 
 -- what an inode is
 abbrev pub kind_of : Files → ℕ → OpenKind

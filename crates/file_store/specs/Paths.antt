@@ -4,11 +4,14 @@ use Rattle.kernel_values.specs.Outcome.{◌>>=◌, ◌>>◌, refused_if}
 use Rattle.kernel_values.specs.declared.errno.Errno.{Errno}
 use Rattle.kernel_values.specs.declared.errno.Errno.TheVariants.{NoEntry, NotDirectory}
 use Rattle.file_store.specs.Descriptors.{open_file}
-use Rattle.file_store.specs.Names.{is_absolute, names_of}
-use Rattle.file_store.specs.Directories.{is_directory, last_entry, walk}
+use Rattle.file_tables.specs.Names.{is_absolute, names_of}
+use Rattle.file_tables.specs.Directories.{is_directory, last_entry, walk}
 use Rattle.file_store.specs.declared.state.Files.{Files}
 
 -- AT_FDCWD, -100: the working directory in place of a descriptor
+abbrev pub at_fdcwd : ℤ
+at_fdcwd = negsuc 99
+
 abbrev pub is_working : ℤ → Bool
 is_working (pos n) = false
 is_working (negsuc n) = n == 99

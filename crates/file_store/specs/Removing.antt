@@ -1,19 +1,16 @@
 -- The removing of names, and of what they meant.
-use Rattle.std.specs.Prelude.{ℕ, ℤ, pos, negsuc, ◌==◌, ◌||◌, false, not, length, List, Option, Some, None, ok_or, Result, Ok, Err, ⊤, if◌then◌else◌}
+use Rattle.std.specs.Prelude.{ℕ, ℤ, pos, negsuc, ◌==◌, ◌||◌, not, length, List, ok_or, Result, Ok, Err, ⊤, if◌then◌else◌}
 use Rattle.kernel_values.specs.Outcome.{◌>>=◌, ◌>>◌, refused_if, settled}
 use Rattle.kernel_values.specs.declared.errno.Errno.{Errno}
 use Rattle.kernel_values.specs.declared.errno.Errno.TheVariants.{Busy, InvalidArgument, IsDirectory, NoEntry, NotDirectory, NotEmpty}
 use Rattle.kernel_values.specs.declared.times.TimeSpec.{TimeSpec}
-use Rattle.file_store.specs.Table.{at, changed, put, removed}
-use Rattle.file_store.specs.Entries.{named}
-use Rattle.file_store.specs.Holding.{is_open}
-use Rattle.file_store.specs.Directories.{entry_at, is_directory, is_dot, is_dot_dot, last_entry}
+use Rattle.number_maps.specs.NumberMap.{at, removed}
+use Rattle.file_tables.specs.Holding.{is_open}
+use Rattle.file_tables.specs.Directories.{entry_at, is_directory, is_dot, is_dot_dot, last_entry}
 use Rattle.file_store.specs.Paths.{resolve_parent}
-use Rattle.file_store.specs.Making.{touched}
-use Rattle.file_store.specs.declared.state.Directory.{Directory}
-use Rattle.file_store.specs.declared.state.Entry.{Entry}
+use Rattle.file_tables.specs.Nodes.{touched, nameless}
 use Rattle.file_store.specs.declared.state.Files.{Files}
-use Rattle.file_store.specs.declared.state.Node.{Node}
+use Rattle.file_tables.specs.Contained.{left}
 
 -- The steps of a path to its last name, and that name, with what refuses the name whether it is there or not: its
 -- length, and a place that is no directory.
@@ -23,33 +20,12 @@ parent_named s from path = do
   entry_at s.directories l.0 l.1
   Ok l
 
--- the entry is gone; its position isn't given again, since the last position given stays
-abbrev pub without_entry : Directory → Option (ℕ × Entry) → Directory
-without_entry d None = d
-without_entry d (Some e) = record d { names = removed d.names e.0 }
-
--- a directory with one name less, where it is there
-abbrev pub left_as : List (ℕ × Directory) → ℕ → List ℕ → Option Directory → List (ℕ × Directory)
-left_as dirs place name None = dirs
-left_as dirs place name (Some d) = changed dirs place (without_entry d (named d.names name))
-
-unfoldable pub left : List (ℕ × Directory) → ℕ → List ℕ → List (ℕ × Directory)
-left dirs place name = left_as dirs place name (at dirs place)
-
 -- the name in the place of a path's last name is gone, which sets both times of that directory
 abbrev pub without_name : Files → TimeSpec → ℕ × List ℕ → Files
 without_name s now l = record s {
   directories = left s.directories l.0 l.1;
   nodes = touched s.nodes l.0 now;
 }
-
--- no directory has a name of an inode any more
-abbrev pub nameless_as : List (ℕ × Node) → ℕ → Option Node → List (ℕ × Node)
-nameless_as nodes inode None = nodes
-nameless_as nodes inode (Some n) = put nodes inode (record n { has_name = false })
-
-unfoldable pub nameless : List (ℕ × Node) → ℕ → List (ℕ × Node)
-nameless nodes inode = nameless_as nodes inode (at nodes inode)
 
 -- a file without a name lasts while an open file holds it
 unfoldable pub unnamed : Files → ℕ → Files

@@ -1,31 +1,22 @@
 -- Renaming.
-use Rattle.std.specs.Prelude.{ℕ, zero, suc, ◌==◌, ◌&&◌, ◌||◌, Bool, true, false, not, negsuc, length, List, Option, Some, None, ok_or, Result, Ok, Err, ⊤, if◌then◌else◌}
+use Rattle.std.specs.Prelude.{ℕ, ◌==◌, ◌&&◌, ◌||◌, Bool, false, not, length, List, Option, Some, None, ok_or, Result, Ok, ⊤, if◌then◌else◌}
 use Rattle.std.specs.Option.{is_none}
 use Rattle.kernel_values.specs.Outcome.{◌>>=◌, ◌>>◌, refused_if, settled}
 use Rattle.kernel_values.specs.declared.errno.Errno.{Errno}
 use Rattle.kernel_values.specs.declared.errno.Errno.TheVariants.{Busy, InvalidArgument, IsDirectory, NoEntry, NotDirectory, TableFull}
 use Rattle.kernel_values.specs.declared.times.TimeSpec.{TimeSpec}
-use Rattle.file_store.specs.Table.{at, changed}
-use Rattle.file_store.specs.Made.{is_full, more_made}
-use Rattle.file_store.specs.Names.{ends_with_slash}
-use Rattle.file_store.specs.Directories.{is_directory, is_dot, is_dot_dot, last_entry, parent_of}
+use Rattle.file_tables.specs.Made.{is_full, more_made}
+use Rattle.file_tables.specs.Names.{ends_with_slash}
+use Rattle.file_tables.specs.Directories.{is_directory, is_dot, is_dot_dot, last_entry}
 use Rattle.file_store.specs.Making.{with_name}
+use Rattle.file_store.specs.Paths.{at_fdcwd}
 use Rattle.file_store.specs.Removing.{parent_named, spare, unnamed, without_directory, without_name}
-use Rattle.file_store.specs.declared.state.Directory.{Directory}
 use Rattle.file_store.specs.declared.state.Files.{Files}
+use Rattle.file_tables.specs.Places.{lies_inside, moved_into}
 
 -- a last name that isn't to be moved: none, which means the root, `.` and `..`
 abbrev pub is_fixed : List ℕ → Bool
 is_fixed name = length name == 0 || is_dot name || is_dot_dot name
-
--- a place is a directory or lies below it, as at most so many steps towards the root show
-unfoldable pub is_inside : List (ℕ × Directory) → ℕ → ℕ → ℕ → Bool
-is_inside dirs inode place zero = false
-is_inside dirs inode place (suc n) = if place == inode then true else is_inside dirs inode (parent_of dirs place) n
-
--- no directory lies deeper than there are directories
-abbrev pub lies_inside : List (ℕ × Directory) → ℕ → ℕ → Bool
-lies_inside dirs inode place = is_inside dirs inode place (length dirs)
 
 -- whether what is there may be replaced: by a directory only one that may go, and by a file only a file
 unfoldable pub replaceable : Files → ℕ → Option ℕ → Result ⊤ Errno
@@ -38,14 +29,6 @@ may_move s i m path e = do
   refused_if (not (is_directory s.directories i) && is_none e && ends_with_slash path) NotDirectory
   refused_if (is_directory s.directories i && lies_inside s.directories i m.0) InvalidArgument
   replaceable s i e
-
--- a directory, where it is one, lies in another one
-abbrev pub moved_as : List (ℕ × Directory) → ℕ → ℕ → Option Directory → List (ℕ × Directory)
-moved_as dirs inode parent None = dirs
-moved_as dirs inode parent (Some d) = changed dirs inode (record d { parent = parent })
-
-unfoldable pub moved_into : List (ℕ × Directory) → ℕ → ℕ → List (ℕ × Directory)
-moved_into dirs inode parent = moved_as dirs inode parent (at dirs inode)
 
 -- what lost its name goes
 unfoldable pub dropped : Files → ℕ → Files
@@ -73,8 +56,8 @@ is_same i (Some j) = i == j
 abbrev pub rename : Files → TimeSpec → List ℕ → List ℕ → Result ⊤ Errno × Files
 rename s now old new = settled s (do
   refused_if (is_full s.made) TableFull
-  l ← parent_named s (negsuc 99) old
-  m ← parent_named s (negsuc 99) new
+  l ← parent_named s at_fdcwd old
+  m ← parent_named s at_fdcwd new
   refused_if (is_fixed l.1 || is_fixed m.1) Busy
   n ← last_entry s.directories l old
   i ← ok_or n NoEntry

@@ -1,5 +1,5 @@
 -- What is told of a file, a directory or a pipe.
-use Rattle.std.specs.Prelude.{ℕ, ℤ, pos, negsuc, ◌+◌, ◌-◌, ◌*◌, ◌^◌, ◌==◌, ◌&&◌, min, Bool, false, not, length, List, [], ◌∷◌, Option, Some, None, ok_or, Result, Ok, if◌then◌else◌}
+use Rattle.std.specs.Prelude.{ℕ, ℤ, pos, negsuc, ◌*◌, ◌==◌, ◌&&◌, Bool, false, not, length, List, ok_or, Result, Ok, if◌then◌else◌}
 use Rattle.std.specs.Int.RustNames.{bit_and, bit_or}
 use Rattle.kernel_values.specs.Outcome.{◌>>=◌, ◌>>◌, refused_if}
 use Rattle.kernel_values.specs.declared.errno.Errno.{Errno}
@@ -7,33 +7,18 @@ use Rattle.kernel_values.specs.declared.errno.Errno.TheVariants.{InvalidArgument
 use Rattle.kernel_values.specs.declared.items.Attributes.{Attributes}
 use Rattle.kernel_values.specs.declared.status.Stat.{Stat}
 use Rattle.file_bytes.specs.Filled.{filled_pages}
-use Rattle.file_store.specs.Table.{at}
+use Rattle.number_maps.specs.NumberMap.{at}
 use Rattle.file_store.specs.Contents.{content_of}
-use Rattle.file_store.specs.Descriptors.{is_of_pipe, open_file}
-use Rattle.file_store.specs.Directories.{is_directory}
+use Rattle.file_store.specs.Descriptors.{open_file}
+use Rattle.file_tables.specs.Kinds.{is_of_pipe}
 use Rattle.file_store.specs.Image.{no_time}
 use Rattle.file_store.specs.Paths.{is_working, resolve}
-use Rattle.file_store.specs.declared.state.Directory.{Directory}
-use Rattle.file_store.specs.declared.state.Entry.{Entry}
 use Rattle.file_store.specs.declared.state.Files.{Files}
 use Rattle.file_store.specs.declared.state.Maker.{Maker}
-use Rattle.file_store.specs.declared.state.Node.{Node}
+use Rattle.file_tables.specs.declared.state.Node.{Node}
+use Rattle.file_tables.specs.Links.{links_as}
 
--- how many of some names mean directories
-unfoldable pub directories_among : List (ℕ × Directory) → List (ℕ × Entry) → ℕ
-directories_among dirs [] = 0
-directories_among dirs (e ∷ es) = if is_directory dirs e.1.child then directories_among dirs es + 1 else directories_among dirs es
-
--- The links of a directory: its name, its `.`, and the `..` of each directory in it. The number has 32 bits, which is
--- more than the names that can be made.
-abbrev pub directory_links : List (ℕ × Directory) → Directory → ℕ
-directory_links dirs d = min (2 + directories_among dirs d.names) (2 ^ 32 - 1)
-
--- a file has one name, or none
-abbrev pub links_as : List (ℕ × Directory) → Node → Option Directory → ℕ
-links_as dirs n (Some d) = directory_links dirs d
-links_as dirs n None = if n.has_name then 1 else 0
-
+-- how many names an inode has
 unfoldable pub links_of : Files → ℕ → Node → ℕ
 links_of s inode n = links_as s.directories n (at s.directories inode)
 

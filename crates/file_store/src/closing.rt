@@ -1,7 +1,7 @@
 //! The closing of all descriptors, when a process ends.
 
 ghost use Rattle.std.specs.Prelude.{◌≡◌, ◌<◌, ◌≤◌, ◌-◌, ◌+◌, length};
-ghost use Rattle.file_store.specs.Closing.{all_closed, closed_times, lowest_closed};
+ghost use Rattle.file_store.specs.Closing.{all_closed, lowest_closed};
 
 use crate::state::Files;
 
@@ -15,8 +15,8 @@ impl Files {
         }
     }
 
-    /// Closes all descriptors, in ascending order: open files end with their last descriptor, and files without a name with their
-    /// last open file. It takes no memory.
+    /// Closes all descriptors, in ascending order: open files end with their last descriptor, and pipes and files without a name
+    /// with their last open file. It takes no memory.
     #[tactic(auto, unfolding(crate::specs::Closing::all_closed), using(crate::proofs::Closings::none_left, crate::proofs::Closings::one_more))]
     pub fn close_all(&mut self)
         ensures { self.new ≡ all_closed self.old }

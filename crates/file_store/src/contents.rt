@@ -3,7 +3,7 @@
 ghost use Rattle.std.specs.Prelude.{◌≡◌, ℕ, List, [], ◌+◌, ◌<◌, ◌≤◌, ◌^◌, ◌++◌, length, take, drop, replicate, OnOk, IfSome, MatchOption, ◌∷◌};
 ghost use Rattle.file_bytes.specs.Filled.{filled_pages};
 ghost use Rattle.file_bytes.specs.Runs.{runs_from};
-ghost use Rattle.file_store.specs.Table.{at, put, removed};
+ghost use Rattle.number_maps.specs.NumberMap.{at, put, removed};
 ghost use Rattle.file_store.specs.Contents.{content_of, overwritten, reaches};
 ghost use Rattle.file_store.specs.Lengths.{relengthened};
 
@@ -82,7 +82,7 @@ impl Contents {
     }
 
     /// How many pages of 4,096 bytes of a file hold a byte other than 0.
-    #[tactic(auto, using(crate::proofs::Links::no_filled_pages))]
+    #[tactic(auto, using(crate::proofs::FileItems::no_filled_pages))]
     pub(crate) fn filled_pages(&self, inode: u64) -> u64
         ensures count { result ≡ filled_pages (content_of self.now inode) }
         ensures limit { result ≤ 2 ^ 28 }

@@ -2,58 +2,34 @@
 
 ghost use Rattle.std.specs.Prelude.{◌≡◌, ℕ, ◌-◌, ◌+◌, ◌+ℤ◌, ◌<◌, ◌≤◌, ◌^◌, pos, Some, IsSome, IfOk, length};
 ghost use Rattle.kernel_values.specs.Outcome.{Gives, GivesAlways, Tells};
-ghost use Rattle.file_store.specs.Table.{at};
-ghost use Rattle.file_store.specs.Descriptors.{descriptor_of, in_range, is_of_directory, is_of_file, is_of_pipe, number_of, open_file, seek, seek_base, with_open_file, with_position};
+ghost use Rattle.number_maps.specs.NumberMap.{at};
+ghost use Rattle.file_store.specs.Descriptors.{descriptor_of, in_range, number_of, open_file, seek, seek_base, with_open_file, with_position};
+ghost use Rattle.file_tables.specs.Kinds.{is_of_directory, is_of_pipe};
 
-use crate::state::{Descriptor, Files, OpenFile};
-use kernel_values::{Answer, Errno, KernelFault, OpenKind};
+use crate::state::Files;
+use file_tables::{Descriptor, OpenFile, is_of_directory, is_of_pipe};
+use kernel_values::{Answer, Errno, KernelFault};
 
 /// The greatest position and size of a file.
 pub const FILE_END: u64 = 0x100_0000_0000;
+/// The greatest size of a file that is opened without O_LARGEFILE.
+pub(crate) const SMALL_SIZE: u64 = 0x7fff_ffff;
+/// No number of a descriptor is as great.
+const NUMBERS_END: i64 = 1 << 32;
 /// The greatest position of a directory.
 const DIRECTORY_END: u64 = 0x7fff_ffff;
 /// `SEEK_END` of `include/uapi/linux/fs.h`.
 const FROM_END: u32 = 2;
 
-/// Whether an open file is of a directory.
-pub(crate) fn is_of_directory(kind: OpenKind) -> bool
-    ensures { result ≡ is_of_directory kind }
-{
-    match kind {
-        OpenKind::Directory => true,
-        OpenKind::File | OpenKind::PipeRead | OpenKind::PipeWrite => false,
-    }
-}
-
-/// Whether an open file is an end of a pipe.
-pub(crate) fn is_of_pipe(kind: OpenKind) -> bool
-    ensures { result ≡ is_of_pipe kind }
-{
-    match kind {
-        OpenKind::PipeRead | OpenKind::PipeWrite => true,
-        OpenKind::File | OpenKind::Directory => false,
-    }
-}
-
-/// Whether an open file is of a file with bytes.
-pub(crate) fn is_of_file(kind: OpenKind) -> bool
-    ensures { result ≡ is_of_file kind }
-{
-    match kind {
-        OpenKind::File => true,
-        OpenKind::Directory | OpenKind::PipeRead | OpenKind::PipeWrite => false,
-    }
-}
-
-/// The number of a descriptor. EBADF below 0.
+/// The number of a descriptor. EBADF below 0 and above 2^32 - 1.
 #[tactic(auto, unfolding(crate::specs::Descriptors::number_of))]
-pub(crate) fn number_of(fd: i64) -> Result<u64, Errno>
+pub(crate) fn number_of(fd: i64) -> Result<u32, Errno>
     ensures { Tells result (number_of fd) }
 {
-    if fd < 0 {
+    if fd < 0 || fd >= NUMBERS_END {
         return Err(Errno::BadDescriptor);
     }
-    Ok(fd as u64)
+    Ok(fd as u32)
 }
 
 /// A position moved by an offset. EINVAL where there is no such position.
@@ -70,12 +46,12 @@ fn moved_position(base: u64, offset: i64) -> Result<u64, Errno>
 impl Files {
     /// The number and the descriptor. EBADF where it isn't open.
     #[tactic(auto, unfolding(crate::specs::Descriptors::descriptor_of))]
-    pub(crate) fn descriptor(&self, fd: i64) -> Result<(u64, Descriptor), Errno>
+    pub(crate) fn descriptor(&self, fd: i64) -> Result<(u32, Descriptor), Errno>
         ensures told { Tells result (descriptor_of self.now fd) }
         ensures there { IfOk result (λ d. at self.now.descriptors d.0 ≡ Some d.1) }
     {
         let number = number_of(fd)?;
-        match self.descriptors.get(number) {
+        match self.descriptors.get(u64::from(number)) {
             Some(descriptor) => Ok((number, *descriptor)),
             None => Err(Errno::BadDescriptor),
         }

@@ -4,8 +4,12 @@ ghost use Rattle.std.specs.Prelude.{◌≡◌};
 ghost use Rattle.kernel_values.specs.Outcome.{GivesAlways};
 ghost use Rattle.file_store.specs.Descriptors.{can_use, fd_flags, open_flags, set_fd_flags, set_open_flags};
 
-use crate::state::{Descriptor, Files, OpenFile};
+use crate::state::Files;
+use file_tables::{Descriptor, OpenFile};
 use kernel_values::{Answer, OpenFlags};
+
+/// `O_CLOEXEC` of `include/uapi/asm-generic/fcntl.h`.
+pub(crate) const CLOSE_ON_EXEC: u32 = 0x8_0000;
 
 impl Files {
     /// F_GETFD: the close-on-exec mark of a descriptor, as bit 0. EBADF.
@@ -23,7 +27,7 @@ impl Files {
         let (number, held) = self.descriptor(fd)?;
         let cloexec = word % 2 == 1;
         self.descriptors
-            .change(number, Descriptor { cloexec, ..held });
+            .change(u64::from(number), Descriptor { cloexec, ..held });
         Ok(())
     }
 

@@ -2,18 +2,16 @@
 
 ghost use Rattle.std.specs.Prelude.{◌≡◌, ◌≤◌, ◌+◌, ◌^◌, ℕ, IfOk, OnOk, length};
 ghost use Rattle.kernel_values.specs.Outcome.{Gives, Tells};
-ghost use Rattle.file_store.specs.Making.{empty_directory};
-ghost use Rattle.file_store.specs.Transfers.{with_bytes};
-ghost use Rattle.file_store.specs.Image.{fresh_files, has_bytes, image_bytes, image_directory, image_entry, image_file, image_node, is_free_inode, is_free_name, no_time, with_image_directory, with_image_file, with_image_name};
+ghost use Rattle.file_store.specs.Image.{fresh_files, has_bytes, image_bytes, image_directory, image_entry, image_file, image_node, is_free_inode, is_free_name, with_image_directory, with_image_file, with_image_name};
 
 use crate::contents::Contents;
 use crate::descriptors::FILE_END;
-use crate::made::Made;
-use crate::paths::{ROOT, WORKING};
-use crate::slab_map::SlabMap;
-use crate::state::{Directory, Files, InodeNumbers, Last, Node};
-use crate::table::Table;
+use crate::own_locks::OwnLocks;
+use crate::paths::WORKING;
+use crate::state::Files;
+use file_tables::{Directory, InodeNumbers, Last, Made, Node, ROOT, SlabMap, Table};
 use kernel_values::{Answer, Attributes, Errno, ItemList, KernelFault, OutOfMemory, TimeSpec};
+use pipe_sock::Pipes;
 use std::alloc::Global;
 
 /// S_IFDIR and 0755.
@@ -61,7 +59,8 @@ impl Files {
             nodes,
             directories,
             contents: Contents::new(alloc),
-            own_locks: Table::new(alloc),
+            pipes: Pipes::new(alloc),
+            own_locks: OwnLocks::new(alloc),
             foreign_locks: ItemList::new(alloc),
             numbers: InodeNumbers {
                 image: Table::new(alloc),

@@ -1,14 +1,15 @@
-//! Files, directories, locks, open files and descriptors told item by item, in the order of a report.
+//! Files, directories, locks, descriptors, open files and pipes told item by item, in the order of a report.
 
 ghost use Rattle.std.specs.Prelude.{◌≡◌, ◌+◌, ◌<◌, ◌≤◌, ◌^◌, [], ◌∷◌, length, take, drop, IfOk, IfSome, MatchOption};
 ghost use Rattle.kernel_values.specs.Items.{TellsFirst};
-ghost use Rattle.file_store.specs.Table.{after, after_key};
+ghost use Rattle.number_maps.specs.NumberMap.{after, after_key};
 ghost use Rattle.file_store.specs.Contents.{content_of};
 ghost use Rattle.file_store.specs.Locks.{locks_on};
 ghost use Rattle.file_store.specs.Items.{file_items, files_left, names_in};
 
-use crate::paths::ROOT;
-use crate::state::{Entry, Files};
+use crate::locks::is_of_writers;
+use crate::state::Files;
+use file_tables::{Entry, ROOT};
 use kernel_values::{ByteList, NameText, OutOfMemory, StateItem};
 use record_locks::OwnLock;
 use std::alloc::Global;
@@ -30,6 +31,8 @@ pub enum FileCursor {
     Descriptors(Option<u64>),
     /// At open files whose serial number is greater than this one.
     OpenFiles(Option<u64>),
+    /// At pipes whose inode number is greater than this one.
+    Pipes(Option<u64>),
 }
 
 /// An item, and the cursor at those behind it.
@@ -44,23 +47,39 @@ impl Files {
     }
 
     #[tactic(auto, unfolding(crate::specs::Items::files_left))]
-    fn open_file_item(&self, last: Option<u64>) -> Told
-        ensures { TellsFirst (files_left self.now) (FileCursor.OpenFiles last) result }
+    fn pipe_item(&self, alloc: Global, last: Option<u64>) -> Result<Told, OutOfMemory>
+        ensures { IfOk result (λ told. TellsFirst (files_left self.now) (FileCursor.Pipes last) told) }
     {
-        let (serial, file) = self.open_files.after(last)?;
-        let item = StateItem::OpenFile {
-            serial,
-            kind: file.kind,
-            flags: file.flags,
-            position: file.position,
-            inode: file.inode,
+        let Some((inode, pipe)) = self.pipes.after(last) else {
+            return Ok(None);
         };
-        Some((item, FileCursor::OpenFiles(Some(serial))))
+        let bytes = ByteList::from_vec(pipe.to_vec(alloc)?);
+        let item = StateItem::Pipe { inode, bytes };
+        Ok(Some((item, FileCursor::Pipes(Some(inode)))))
     }
 
     #[tactic(auto, unfolding(crate::specs::Items::files_left))]
-    fn descriptor_item(&self, last: Option<u64>) -> Told
-        ensures { TellsFirst (files_left self.now) (FileCursor.Descriptors last) result }
+    fn open_file_item(&self, alloc: Global, last: Option<u64>) -> Result<Told, OutOfMemory>
+        ensures { IfOk result (λ told. TellsFirst (files_left self.now) (FileCursor.OpenFiles last) told) }
+    {
+        match self.open_files.after(last) {
+            Some((serial, file)) => {
+                let item = StateItem::OpenFile {
+                    serial,
+                    kind: file.kind,
+                    flags: file.flags,
+                    position: file.position,
+                    inode: file.inode,
+                };
+                Ok(Some((item, FileCursor::OpenFiles(Some(serial)))))
+            }
+            None => self.pipe_item(alloc, None),
+        }
+    }
+
+    #[tactic(auto, unfolding(crate::specs::Items::files_left))]
+    fn descriptor_item(&self, alloc: Global, last: Option<u64>) -> Result<Told, OutOfMemory>
+        ensures { IfOk result (λ told. TellsFirst (files_left self.now) (FileCursor.Descriptors last) told) }
     {
         match self.descriptors.after(last) {
             Some((number, held)) => {
@@ -70,15 +89,15 @@ impl Files {
                     serial,
                     cloexec,
                 };
-                Some((item, FileCursor::Descriptors(Some(number))))
+                Ok(Some((item, FileCursor::Descriptors(Some(number)))))
             }
-            None => self.open_file_item(None),
+            None => self.open_file_item(alloc, None),
         }
     }
 
     #[tactic(auto, unfolding(crate::specs::Items::files_left, crate::specs::Items::nodes_before))]
-    fn node_item(&self, last: Option<u64>) -> Told
-        ensures { TellsFirst (files_left self.now) (FileCursor.Nodes last) result }
+    fn node_item(&self, alloc: Global, last: Option<u64>) -> Result<Told, OutOfMemory>
+        ensures { IfOk result (λ told. TellsFirst (files_left self.now) (FileCursor.Nodes last) told) }
     {
         match self.nodes.after(last) {
             Some((inode, node)) => {
@@ -89,9 +108,9 @@ impl Files {
                     attributes: node.attributes,
                 };
                 let (directory, last) = (inode, None);
-                Some((item, FileCursor::Names { directory, last }))
+                Ok(Some((item, FileCursor::Names { directory, last })))
             }
-            None => self.descriptor_item(None),
+            None => self.descriptor_item(alloc, None),
         }
     }
 
@@ -110,21 +129,21 @@ impl Files {
     }
 
     #[tactic(auto, unfolding(crate::specs::Items::files_left))]
-    fn lock_item(&self, inode: u64, count: usize) -> Told
-        ensures { TellsFirst (files_left self.now) (FileCursor.Locks inode count) result }
+    fn lock_item(&self, alloc: Global, inode: u64, count: usize) -> Result<Told, OutOfMemory>
+        ensures { IfOk result (λ told. TellsFirst (files_left self.now) (FileCursor.Locks inode count) told) }
     {
         match self.lock_after(inode, count) {
             Some(lock) => {
                 let item = StateItem::Lock {
                     inode,
-                    write: lock.write,
+                    write: is_of_writers(lock.kind),
                     first: lock.first,
                     last: lock.last,
                 };
                 let count = count + 1;
-                Some((item, FileCursor::Locks { inode, count }))
+                Ok(Some((item, FileCursor::Locks { inode, count })))
             }
-            None => self.node_item(Some(inode)),
+            None => self.node_item(alloc, Some(inode)),
         }
     }
 
@@ -149,7 +168,7 @@ impl Files {
         ensures { IfOk result (λ told. TellsFirst (files_left self.now) (FileCursor.Bytes inode offset) told) }
     {
         let Some(run) = self.contents.next_run(inode, offset) else {
-            return Ok(self.lock_item(inode, 0));
+            return self.lock_item(alloc, inode, 0);
         };
         let bytes = self.bytes_of(alloc, inode, run.at, run.length)?;
         let item = StateItem::Bytes {
@@ -162,7 +181,7 @@ impl Files {
     }
 
     /// The first name in a directory after a position.
-    #[tactic(auto, using(crate::proofs::FileItems::nothing_after))]
+    #[tactic(auto, using(number_maps::proofs::Steps::nothing_after))]
     fn name_after(&self, directory: u64, last: Option<u64>) -> Option<(u64, &Entry)>
         ensures { MatchOption result (after (names_in self.now directory) last ≡ [])
             (λ e. after (names_in self.now directory) last ≡ (e.0, e.1.now) ∷ after_key (names_in self.now directory) e.0) }
@@ -196,15 +215,15 @@ impl Files {
     }
 
     #[tactic(auto, unfolding(crate::specs::Items::files_left))]
-    fn working_item(&self) -> Told
-        ensures { TellsFirst (files_left self.now) FileCursor.Working result }
+    fn working_item(&self, alloc: Global) -> Result<Told, OutOfMemory>
+        ensures { IfOk result (λ told. TellsFirst (files_left self.now) FileCursor.Working told) }
     {
         if self.working == ROOT {
-            return self.node_item(None);
+            return self.node_item(alloc, None);
         }
         let inode = self.working;
         let item = StateItem::WorkingDirectory { inode };
-        Some((item, FileCursor::Nodes(None)))
+        Ok(Some((item, FileCursor::Nodes(None))))
     }
 
     /// The first of the items that are left at a cursor, and the cursor at those behind it. None exactly where no item is left.
@@ -212,13 +231,14 @@ impl Files {
         ensures { IfOk result (λ told. TellsFirst (files_left self.now) cursor told) }
     {
         match cursor {
-            FileCursor::Working => Ok(self.working_item()),
-            FileCursor::Nodes(last) => Ok(self.node_item(last)),
+            FileCursor::Working => self.working_item(alloc),
+            FileCursor::Nodes(last) => self.node_item(alloc, last),
             FileCursor::Names { directory, last } => self.name_item(alloc, directory, last),
             FileCursor::Bytes { inode, offset } => self.bytes_item(alloc, inode, offset),
-            FileCursor::Locks { inode, count } => Ok(self.lock_item(inode, count)),
-            FileCursor::Descriptors(last) => Ok(self.descriptor_item(last)),
-            FileCursor::OpenFiles(last) => Ok(self.open_file_item(last)),
+            FileCursor::Locks { inode, count } => self.lock_item(alloc, inode, count),
+            FileCursor::Descriptors(last) => self.descriptor_item(alloc, last),
+            FileCursor::OpenFiles(last) => self.open_file_item(alloc, last),
+            FileCursor::Pipes(last) => self.pipe_item(alloc, last),
         }
     }
 }

@@ -4,9 +4,10 @@ ghost use Rattle.std.specs.Prelude.{◌≡◌, ◌+◌, ◌≤◌, ◌^◌, IfOk
 ghost use Rattle.kernel_values.specs.Outcome.{GivesAlways, Tells};
 ghost use Rattle.file_store.specs.Lengths.{allocate, length_of, raises_length, truncate, truncate_open, with_end, with_length};
 
-use crate::descriptors::{FILE_END, is_of_directory, is_of_file, is_of_pipe};
+use crate::descriptors::FILE_END;
 use crate::paths::WORKING;
 use crate::state::Files;
+use file_tables::{is_of_directory, is_of_file, is_of_pipe};
 use kernel_values::{Answer, Errno, KernelFault, TimeSpec};
 
 /// `FALLOC_FL_KEEP_SIZE` of `include/uapi/linux/falloc.h`: the length stays.
@@ -52,7 +53,7 @@ impl Files {
     /// which the file's times are set to, also where the length stays. It takes no memory.
     ///
     /// EINVAL for a length below 0; EFBIG above 2^40; what refuses the path (ENOENT, ENOTDIR, ENAMETOOLONG); EISDIR.
-    pub fn truncate(&mut self, now: TimeSpec, path: &[u8], wanted: i64) -> Answer<()>
+    pub fn set_length_at(&mut self, now: TimeSpec, path: &[u8], wanted: i64) -> Answer<()>
         ensures { GivesAlways (λ _. tt) result self.new (truncate self.old now path.now wanted) }
     {
         let length = length_of(wanted)?;
@@ -64,10 +65,10 @@ impl Files {
         Ok(())
     }
 
-    /// ftruncate: gives an open file another length, as `truncate` does. It takes no memory.
+    /// ftruncate: gives an open file another length, as `set_length_at` does. It takes no memory.
     ///
     /// EBADF; EINVAL for a length below 0; EFBIG above 2^40; EINVAL for what is no file or isn't open for writing.
-    pub fn truncate_open(&mut self, now: TimeSpec, fd: i64, wanted: i64) -> Answer<()>
+    pub fn set_length(&mut self, now: TimeSpec, fd: i64, wanted: i64) -> Answer<()>
         ensures { GivesAlways (λ _. tt) result self.new (truncate_open self.old now fd wanted) }
     {
         let (_, file) = self.open_file(fd)?;

@@ -1,26 +1,25 @@
 //! Locks of files.
 
-ghost use Rattle.std.specs.Prelude.{◌≡◌, ◌≤◌, ◌∷◌, ◌++◌, [], IfOk, OnOk};
+ghost use Rattle.std.specs.Prelude.{◌≡◌, ◌≤◌, IfOk};
 ghost use Rattle.kernel_values.specs.Outcome.{Gives, Tells};
-ghost use Rattle.file_store.specs.Locks.{asked_kind, lock_bytes, find_lock, found, image_lock, lock_base, locked, may_set, set_lock};
+ghost use Rattle.file_store.specs.Locks.{asked_kind, find_lock, found, image_kind, image_lock, is_of_writers, lock_base, lock_bytes, may_set, set_lock};
 
-use crate::descriptors::is_of_file;
 use crate::paths::WORKING;
-use crate::state::{Files, OpenFile};
-use crate::table::Table;
-use kernel_values::{Answer, Errno, KernelFault, Lock, OpenFlags, OutOfMemory};
-use record_locks::{ByteRange, ForeignLock, LockList, byte_range, lock_kind, obstacle};
+use crate::state::Files;
+use file_tables::{OpenFile, is_of_file};
+use kernel_values::{Answer, Errno, KernelFault, Lock, OpenFlags};
+use record_locks::{ByteRange, ForeignLock, LockKind, byte_range, lock_kind, obstacle};
 use std::alloc::Global;
 
 /// `F_UNLCK` of `include/uapi/asm-generic/fcntl.h`.
 const UNLOCKED: i16 = 2;
 
 /// The kind of a lock that F_GETLK asks for. EINVAL for unlocking.
-fn asked_kind(wanted: Option<bool>) -> Result<bool, Errno>
+fn asked_kind(wanted: Option<LockKind>) -> Result<LockKind, Errno>
     ensures { Tells result (asked_kind wanted) }
 {
     match wanted {
-        Some(write) => Ok(write),
+        Some(kind) => Ok(kind),
         None => Err(Errno::InvalidArgument),
     }
 }
@@ -39,35 +38,34 @@ fn found(asked: &Lock, obstacle: Option<ForeignLock>) -> Lock
 }
 
 /// Whether a lock may be set through an open file: one of writers needs write access, one of readers read access.
-fn may_set(flags: OpenFlags, wanted: Option<bool>) -> bool
+fn may_set(flags: OpenFlags, wanted: Option<LockKind>) -> bool
     ensures { result ≡ may_set flags wanted }
 {
     match wanted {
         None => true,
-        Some(true) => flags.can_write(),
-        Some(false) => flags.can_read(),
+        Some(LockKind::Write) => flags.can_write(),
+        Some(LockKind::Read) => flags.can_read(),
     }
 }
 
-impl Table<LockList> {
-    /// Gives bytes of a file another lock of the process, or none.
-    #[tactic(auto, unfolding(crate::specs::Locks::locked))]
-    fn lock(
-        &mut self,
-        alloc: Global,
-        inode: u64,
-        wanted: Option<bool>,
-        range: ByteRange,
-    ) -> Result<(), OutOfMemory>
-        requires { range.first ≤ range.last }
-        ensures { OnOk result (self.new ≡ locked self.old inode wanted range) }
-    {
-        if let Some(locks) = self.map.get_mut(&inode) {
-            return locks.set(alloc, wanted, range);
-        }
-        let mut locks = LockList::new(alloc);
-        locks.set(alloc, wanted, range)?;
-        self.put(inode, locks)
+/// Whether a lock is of writers, as an item tells it.
+pub(crate) fn is_of_writers(kind: LockKind) -> bool
+    ensures { result ≡ is_of_writers kind }
+{
+    match kind {
+        LockKind::Read => false,
+        LockKind::Write => true,
+    }
+}
+
+/// The kind of a lock of the image.
+fn image_kind(write: bool) -> LockKind
+    ensures { result ≡ image_kind write }
+{
+    if write {
+        LockKind::Write
+    } else {
+        LockKind::Read
     }
 }
 
@@ -106,10 +104,10 @@ impl Files {
             return Err(Errno::InvalidArgument);
         }
         let wanted = lock_kind(lock.kind)?;
-        let write = asked_kind(wanted)?;
+        let kind = asked_kind(wanted)?;
         let range = self.lock_bytes(&file, lock)?;
         let locks = self.foreign_locks.as_slice();
-        Ok(found(lock, obstacle(locks, file.inode, Some(write), range)))
+        Ok(found(lock, obstacle(locks, file.inode, Some(kind), range)))
     }
 
     /// F_SETLK and F_SETLKW, which doesn't wait either: sets a lock of the process on bytes of a file, or drops its locks
@@ -150,7 +148,7 @@ impl Files {
         ensures { Gives (λ _. tt) result self.new (image_lock self.old path.now write start length pid) }
     {
         let inode = self.resolve(WORKING, path)?;
-        let lock = ForeignLock::new(inode, write, start, length, pid)?;
+        let lock = ForeignLock::new(inode, image_kind(write), start, length, pid)?;
         self.foreign_locks.push(lock)?;
         Ok(())
     }

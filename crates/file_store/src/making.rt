@@ -1,15 +1,12 @@
-//! What calls make: inode numbers, nodes and names.
+//! What calls make: nodes and names.
 
-ghost use Rattle.std.specs.Prelude.{◌≡◌, ℕ, ◌+◌, ◌%◌, [], false, IfOk, OnOk};
-ghost use Rattle.file_store.specs.Making.{empty_directory, entered, given, made_node, new_number, touched, with_entry, with_name};
+ghost use Rattle.std.specs.Prelude.{◌≡◌, OnOk};
+ghost use Rattle.file_store.specs.Making.{made_node, with_name};
 
-use crate::state::{Directory, Entry, Files, InodeNumbers, Last, Maker, Node};
-use crate::table::Table;
+use crate::state::{Files, Maker};
+use file_tables::{Last, Node};
 use kernel_values::{Attributes, NameText, OutOfMemory, TimeSpec};
 use std::alloc::Global;
-
-/// One more than the greatest inode number.
-const NUMBERS_END: u64 = 0x8000_0000_0000_0000;
 
 /// The node of what a call makes.
 pub(crate) fn made_node(maker: &Maker, mode: u32) -> Node
@@ -25,79 +22,6 @@ pub(crate) fn made_node(maker: &Maker, mode: u32) -> Node
             changed: maker.time,
         },
         has_name: true,
-    }
-}
-
-impl InodeNumbers {
-    /// Gives the least number that is free. There are more numbers than can be given.
-    #[tactic(auto, unfolding(crate::specs::Making::new_number, crate::specs::Making::given))]
-    pub(crate) fn take(&mut self) -> Result<u64, OutOfMemory>
-        ensures number { IfOk result (λ i. i ≡ new_number self.old) }
-        ensures after { OnOk result (self.new ≡ given self.old) }
-    {
-        let Some(number) = self.image.first_free(self.next, NUMBERS_END) else {
-            return Err(OutOfMemory);
-        };
-        self.next = number + 1;
-        Ok(number)
-    }
-}
-
-impl Directory {
-    /// A directory without names that lies in another.
-    pub(crate) fn empty(alloc: Global, parent: u64) -> Directory
-        ensures { result ≡ empty_directory parent }
-    {
-        Directory {
-            parent,
-            last: 2,
-            names: Table::new(alloc),
-        }
-    }
-
-    /// Puts a name at the next position. There are more positions than names can be made.
-    fn add(&mut self, name: NameText, child: u64) -> Result<(), OutOfMemory>
-        ensures { OnOk result (self.new ≡ with_entry self.old name child) }
-    {
-        let Some(position) = self.last.checked_add(1) else {
-            return Err(OutOfMemory);
-        };
-        self.last = position;
-        self.names.put(position, Entry { name, child })
-    }
-}
-
-impl Table<Directory> {
-    /// Puts a name into a directory, where it is there.
-    #[tactic(auto, unfolding(crate::specs::Making::entered))]
-    fn enter(&mut self, place: u64, name: NameText, child: u64) -> Result<(), OutOfMemory>
-        ensures { OnOk result (self.new ≡ entered self.old place name child) }
-    {
-        match self.map.get_mut(&place) {
-            Some(directory) => directory.add(name, child),
-            None => Ok(()),
-        }
-    }
-}
-
-impl Table<Node> {
-    /// Sets the times of what is written, where it is there.
-    #[tactic(auto, unfolding(crate::specs::Making::touched))]
-    pub(crate) fn touch(&mut self, inode: u64, now: TimeSpec)
-        ensures { self.new ≡ touched self.old inode now }
-    {
-        if let Some(node) = self.get(inode) {
-            let attributes = Attributes {
-                modified: now,
-                changed: now,
-                ..node.attributes
-            };
-            let node = Node {
-                attributes,
-                ..*node
-            };
-            self.change(inode, node);
-        }
     }
 }
 

@@ -2,11 +2,12 @@
 
 ghost use Rattle.std.specs.Prelude.{◌≡◌, ℕ, false, OnOk};
 ghost use Rattle.kernel_values.specs.Outcome.{Gives};
-ghost use Rattle.file_store.specs.Made.{is_full};
+ghost use Rattle.file_tables.specs.Made.{is_full};
 ghost use Rattle.file_store.specs.NewDirectory.{directory_mode, make_directory, with_directory};
 
 use crate::making::made_node;
-use crate::state::{Directory, Files, Last, Maker};
+use crate::state::{Files, Maker};
+use file_tables::{Directory, Last};
 use kernel_values::{Answer, Errno, KernelFault, OutOfMemory};
 use std::alloc::Global;
 

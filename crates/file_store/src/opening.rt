@@ -2,18 +2,17 @@
 
 ghost use Rattle.std.specs.Prelude.{◌≡◌, ℕ, ◌+◌, false, IfOk, OnOk, List, Option, None, Some};
 ghost use Rattle.kernel_values.specs.Outcome.{Gives, Tells, settled};
-ghost use Rattle.file_store.specs.Made.{HasRoom, is_full};
-ghost use Rattle.file_store.specs.Making.{file_mode, new_number};
+ghost use Rattle.file_tables.specs.Made.{HasRoom, is_full};
+ghost use Rattle.file_store.specs.Making.{file_mode};
+ghost use Rattle.file_tables.specs.Numbers.{new_number};
 ghost use Rattle.file_store.specs.Opening.{admitted, kind_of, new_open_file, open_path, opened_missing, opened_present, truncated, with_file};
 
+use crate::descriptors::SMALL_SIZE;
 use crate::making::made_node;
-use crate::names::ends_with_slash;
-use crate::state::{Files, Last, Maker, OpenFile};
+use crate::state::{Files, Maker};
+use file_tables::{Last, OpenFile, ends_with_slash};
 use kernel_values::{Answer, Errno, KernelFault, OpenFlags, OpenKind, OutOfMemory};
 use std::alloc::Global;
-
-/// The most bytes of a file that can be opened without O_LARGEFILE.
-const SMALL_SIZE: u64 = 0x7fff_ffff;
 
 /// The mode word of a file that is made: S_IFREG of `include/uapi/linux/stat.h`, and the permission bits.
 fn file_mode(mode: u32) -> u32
@@ -113,16 +112,16 @@ impl Files {
     pub fn open_by_path(
         &mut self,
         alloc: Global,
-        limit: u64,
+        limit: u32,
         maker: &Maker,
         from: i64,
         path: &[u8],
         flags: OpenFlags,
         mode: u32,
-    ) -> Answer<u64>
+    ) -> Answer<u32>
         ensures { Gives (λ n. n) result self.new (open_path self.old limit maker.now from path.now flags mode) }
     {
-        let Some(number) = self.descriptors.first_free(0, limit) else {
+        let Some(number) = self.free_number(0, limit) else {
             return Err(KernelFault::Errno(Errno::TooManyDescriptors));
         };
         if self.made.is_full() {
@@ -144,9 +143,9 @@ impl Files {
         &mut self,
         alloc: Global,
         flags: OpenFlags,
-        number: u64,
+        number: u32,
         inode: u64,
-    ) -> Answer<u64>
+    ) -> Answer<u32>
         requires { is_full self.old.made ≡ false }
         ensures { Gives (λ n. n) result self.new (settled self.old (opened_present self.old flags number inode)) }
     {
@@ -166,8 +165,8 @@ impl Files {
         path: &[u8],
         flags: OpenFlags,
         mode: u32,
-        number: u64,
-    ) -> Answer<u64>
+        number: u32,
+    ) -> Answer<u32>
         requires { is_full self.old.made ≡ false }
         ensures { Gives (λ n. n) result self.new (settled self.old (opened_missing self.old maker.now (last.now.place, last.now.name.now) path.now flags mode number)) }
     {

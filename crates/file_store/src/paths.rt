@@ -4,12 +4,10 @@ ghost use Rattle.std.specs.Prelude.{◌≡◌, ℕ};
 ghost use Rattle.kernel_values.specs.Outcome.{Tells, TellsAs};
 ghost use Rattle.file_store.specs.Paths.{is_working, place_of, resolve, resolve_parent, start_of};
 
-use crate::names::is_absolute;
-use crate::state::{Files, Last};
+use crate::state::Files;
+use file_tables::{Last, ROOT, is_absolute};
 use kernel_values::Errno;
 
-/// The inode number of the root.
-pub(crate) const ROOT: u64 = 2;
 /// `AT_FDCWD` of `include/uapi/linux/fcntl.h`: the working directory in place of a descriptor.
 pub const WORKING: i64 = -100;
 

@@ -1,23 +1,10 @@
 //! What ends with a descriptor, and what with the last one of an open file.
 
-ghost use Rattle.std.specs.Prelude.{◌≡◌, ℕ};
-ghost use Rattle.file_store.specs.Table.{at};
-ghost use Rattle.file_store.specs.Releasing.{let_go, released, stays_as, without_locks};
+ghost use Rattle.std.specs.Prelude.{◌≡◌};
+ghost use Rattle.file_store.specs.Releasing.{drained, let_go, let_go_of, released, without_locks};
 
-use crate::state::{Files, Node};
-use crate::table::Table;
-
-impl Table<Node> {
-    /// Whether a directory has a name of an inode.
-    fn stays(&self, inode: u64) -> bool
-        ensures { result ≡ stays_as (at self.now inode) }
-    {
-        match self.get(inode) {
-            Some(node) => node.has_name,
-            None => true,
-        }
-    }
-}
+use crate::state::Files;
+use file_tables::{OpenFile, is_of_pipe};
 
 impl Files {
     /// Drops the process's locks on the file that an open file is of.
@@ -27,7 +14,7 @@ impl Files {
     {
         if let Some(file) = self.open_files.get(serial) {
             let inode = file.inode;
-            let _locks = self.own_locks.remove(inode);
+            self.own_locks.remove(inode);
         }
     }
 
@@ -43,6 +30,28 @@ impl Files {
         self.contents.remove(inode);
     }
 
+    /// Drops a pipe that no open file holds.
+    #[tactic(auto, unfolding(crate::specs::Releasing::drained))]
+    fn drain(&mut self, inode: u64)
+        ensures { self.new ≡ drained self.old inode }
+    {
+        if self.open_files.hold(inode) {
+            return;
+        }
+        self.pipes.remove(inode);
+    }
+
+    /// Lets go of what an open file was of.
+    fn let_go_of(&mut self, file: OpenFile)
+        ensures { self.new ≡ let_go_of self.old file }
+    {
+        if is_of_pipe(file.kind) {
+            self.drain(file.inode);
+        } else {
+            self.let_go(file.inode);
+        }
+    }
+
     /// Ends an open file that no descriptor names.
     #[tactic(auto, unfolding(crate::specs::Releasing::released))]
     pub(crate) fn release(&mut self, serial: u64)
@@ -53,9 +62,9 @@ impl Files {
         }
         // Only what is there is taken out: so no fact on absent keys is needed.
         if let Some(file) = self.open_files.get(serial) {
-            let inode = file.inode;
+            let file = *file;
             let _ended = self.open_files.remove(serial);
-            self.let_go(inode);
+            self.let_go_of(file);
         }
     }
 }

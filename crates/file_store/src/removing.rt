@@ -1,56 +1,15 @@
 //! The removing of names, and of what they meant.
 
-ghost use Rattle.std.specs.Prelude.{◌≡◌, ℕ, false, length, ◌==◌};
+ghost use Rattle.std.specs.Prelude.{◌≡◌};
 ghost use Rattle.kernel_values.specs.Outcome.{GivesAlways, Tells, TellsAs};
-ghost use Rattle.file_store.specs.Entries.{named};
-ghost use Rattle.file_store.specs.Removing.{left, nameless, parent_named, remove, remove_directory, spare, unlink, unnamed, without_directory, without_entry, without_name};
+ghost use Rattle.file_store.specs.Removing.{parent_named, remove, remove_directory, spare, unlink, unnamed, without_directory, without_name};
 
-use crate::state::{Directory, Files, Last, Node};
-use crate::table::Table;
-use crate::walk::{is_dot, is_dot_dot};
+use crate::state::Files;
+use file_tables::{Last, is_dot, is_dot_dot};
 use kernel_values::{Answer, Errno, KernelFault, TimeSpec};
 
 /// `AT_REMOVEDIR` of `include/uapi/linux/fcntl.h`.
 const REMOVE_DIRECTORY: i64 = 0x200;
-
-impl Directory {
-    /// Takes a name out, where it is there.
-    fn take_out(&mut self, name: &[u8])
-        ensures { self.new ≡ without_entry self.old (named self.old.names name.now) }
-    {
-        if let Some((position, _)) = self.names.find_name(name) {
-            let _entry = self.names.remove(position);
-        }
-    }
-}
-
-impl Table<Directory> {
-    /// Takes a name out of a directory, where both are there.
-    #[tactic(auto, unfolding(crate::specs::Removing::left))]
-    fn leave(&mut self, place: u64, name: &[u8])
-        ensures { self.new ≡ left self.old place name.now }
-    {
-        if let Some(directory) = self.map.get_mut(&place) {
-            directory.take_out(name);
-        }
-    }
-}
-
-impl Table<Node> {
-    /// Marks an inode as one without a name, where it is there.
-    #[tactic(auto, unfolding(crate::specs::Removing::nameless))]
-    fn forget_name(&mut self, inode: u64)
-        ensures { self.new ≡ nameless self.old inode }
-    {
-        if let Some(node) = self.get(inode) {
-            let node = Node {
-                has_name: false,
-                ..*node
-            };
-            self.change(inode, node);
-        }
-    }
-}
 
 impl Files {
     /// The steps of a path to its last name, and that name, with what refuses the name whether it is there or not.

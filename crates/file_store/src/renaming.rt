@@ -1,15 +1,13 @@
 //! Renaming.
 
-ghost use Rattle.std.specs.Prelude.{◌≡◌, ℕ, ◌-◌, ◌+◌, ◌==◌, false, length, Option, OnOk, IfOk};
+ghost use Rattle.std.specs.Prelude.{◌≡◌, false, OnOk};
 ghost use Rattle.kernel_values.specs.Outcome.{Gives, Tells};
-ghost use Rattle.file_store.specs.Made.{is_full};
-ghost use Rattle.file_store.specs.Renaming.{displaced, dropped, is_fixed, is_same, lies_inside, may_move, moved_into, rename, renamed, replaceable};
+ghost use Rattle.file_tables.specs.Made.{is_full};
+ghost use Rattle.file_store.specs.Renaming.{displaced, dropped, is_fixed, is_same, may_move, rename, renamed, replaceable};
 
-use crate::names::ends_with_slash;
 use crate::paths::WORKING;
-use crate::state::{Directory, Files, Last};
-use crate::table::Table;
-use crate::walk::{is_dot, is_dot_dot};
+use crate::state::Files;
+use file_tables::{Last, ends_with_slash, is_dot, is_dot_dot};
 use kernel_values::{Answer, Errno, KernelFault, OutOfMemory, TimeSpec};
 use std::alloc::Global;
 
@@ -27,33 +25,6 @@ fn is_same(inode: u64, entry: Option<u64>) -> bool
     match entry {
         Some(there) => inode == there,
         None => false,
-    }
-}
-
-impl Table<Directory> {
-    /// Whether a place is a directory or lies below it.
-    #[tactic(auto, using(crate::proofs::Insides::inside_end, crate::proofs::Insides::inside_here, crate::proofs::Insides::inside_next))]
-    fn lies_inside(&self, inode: u64, place: u64) -> bool
-        ensures { result ≡ lies_inside self.now inode place }
-    {
-        let mut above = place;
-        for step in 0..self.len() {
-            if above == inode {
-                return true;
-            }
-            above = self.parent_of(above);
-        }
-        false
-    }
-
-    /// Lets a directory lie in another one, where it is one.
-    #[tactic(auto, unfolding(crate::specs::Renaming::moved_into))]
-    fn move_into(&mut self, inode: u64, parent: u64)
-        ensures { self.new ≡ moved_into self.old inode parent }
-    {
-        if let Some(directory) = self.map.get_mut(&inode) {
-            directory.parent = parent;
-        }
     }
 }
 

@@ -2,106 +2,21 @@
 
 ghost use Rattle.std.specs.Prelude.{◌≡◌, option_map};
 ghost use Rattle.kernel_values.specs.Outcome.{GivesAlways, Tells};
-ghost use Rattle.file_store.specs.Retiming.{are_bad_times, chosen, held_inode, is_bad_choice, is_fraction, is_now, is_omitted, is_times_flags, retimed, retimed_inode, retimed_node, set_times};
+ghost use Rattle.file_tables.specs.Times.{are_bad_times};
+ghost use Rattle.file_store.specs.Retiming.{held_inode, is_times_flags, retimed_inode, set_times};
 
 use crate::paths::is_working;
-use crate::state::{Files, Node};
-use crate::table::Table;
-use kernel_values::{Answer, Attributes, Errno, FileTimes, KernelFault, TimeSpec};
+use crate::state::Files;
+use file_tables::are_bad_times;
+use kernel_values::{Answer, Errno, FileTimes, KernelFault, TimeSpec};
 
-/// `UTIME_NOW` of `include/linux/stat.h`: the time of the call.
-const UTIME_NOW: i64 = 0x3fff_ffff;
-/// `UTIME_OMIT` of `include/linux/stat.h`: the time stays.
-const UTIME_OMIT: i64 = 0x3fff_fffe;
 /// `AT_SYMLINK_NOFOLLOW` of `include/uapi/linux/fcntl.h`. No name is a symbolic link.
 const SYMLINK_NOFOLLOW: i64 = 0x100;
-
-fn is_now(nanos: i64) -> bool
-    ensures { result ≡ is_now nanos }
-{
-    nanos == UTIME_NOW
-}
-
-fn is_omitted(nanos: i64) -> bool
-    ensures { result ≡ is_omitted nanos }
-{
-    nanos == UTIME_OMIT
-}
-
-/// Whether these nanoseconds are a part of a second.
-fn is_fraction(nanos: i64) -> bool
-    ensures { result ≡ is_fraction nanos }
-{
-    0 <= nanos && nanos < 1_000_000_000
-}
-
-fn is_bad_choice(time: TimeSpec) -> bool
-    ensures { result ≡ is_bad_choice time }
-{
-    !(is_now(time.nanos) || is_omitted(time.nanos) || is_fraction(time.nanos))
-}
-
-fn are_bad_times(times: Option<FileTimes>) -> bool
-    ensures { result ≡ are_bad_times times }
-{
-    match times {
-        Some(times) => is_bad_choice(times.accessed) || is_bad_choice(times.modified),
-        None => false,
-    }
-}
-
-/// Now, the time as it was, or the time given.
-fn chosen(now: TimeSpec, old: TimeSpec, given: TimeSpec) -> TimeSpec
-    ensures { result ≡ chosen now old given }
-{
-    if is_now(given.nanos) {
-        now
-    } else if is_omitted(given.nanos) {
-        old
-    } else {
-        given
-    }
-}
-
-fn retimed(now: TimeSpec, times: Option<FileTimes>, old: Attributes) -> Attributes
-    ensures { result ≡ retimed now times old }
-{
-    match times {
-        Some(times) => Attributes {
-            accessed: chosen(now, old.accessed, times.accessed),
-            modified: chosen(now, old.modified, times.modified),
-            changed: now,
-            ..old
-        },
-        None => Attributes {
-            accessed: now,
-            modified: now,
-            changed: now,
-            ..old
-        },
-    }
-}
 
 fn is_times_flags(flags: i64) -> bool
     ensures { result ≡ is_times_flags flags }
 {
     flags == 0 || flags == SYMLINK_NOFOLLOW
-}
-
-impl Table<Node> {
-    /// Sets the times of a file or a directory, where it is there.
-    #[tactic(auto, unfolding(crate::specs::Retiming::retimed_node))]
-    fn retime(&mut self, inode: u64, now: TimeSpec, times: Option<FileTimes>)
-        ensures { self.new ≡ retimed_node self.old inode now times }
-    {
-        if let Some(node) = self.get(inode) {
-            let node = Node {
-                attributes: retimed(now, times, node.attributes),
-                ..*node
-            };
-            self.change(inode, node);
-        }
-    }
 }
 
 impl Files {

@@ -1,32 +1,11 @@
 //! The types of the state alone, so that the definitions may name them.
 
 use crate::contents::Contents;
-use crate::made::Made;
-use crate::slab_map::SlabMap;
-use crate::table::Table;
-use kernel_values::{Attributes, ItemList, NameText, OpenFlags, OpenKind, TimeSpec};
-use record_locks::{ForeignLock, LockList};
-
-/// A descriptor.
-#[derive(Clone, Copy, Debug)]
-pub struct Descriptor {
-    /// The serial number of the open file that it names.
-    pub serial: u64,
-    /// The close-on-exec mark.
-    pub cloexec: bool,
-}
-
-/// An open file.
-#[derive(Clone, Copy, Debug)]
-pub struct OpenFile {
-    /// What is open.
-    pub inode: u64,
-    pub kind: OpenKind,
-    /// What it keeps of the flags that it was opened with, as F_GETFL tells them.
-    pub flags: OpenFlags,
-    /// Where the next transfer begins, in bytes, at most 2^40.
-    pub position: u64,
-}
+use crate::own_locks::OwnLocks;
+use file_tables::{Descriptor, Directory, InodeNumbers, Made, Node, OpenFile, SlabMap, Table};
+use kernel_values::{ItemList, TimeSpec};
+use pipe_sock::Pipes;
+use record_locks::ForeignLock;
 
 /// Where a transfer begins.
 #[derive(Clone, Copy, Debug)]
@@ -35,14 +14,6 @@ pub enum Place {
     Current,
     /// At this offset in bytes; the position stays.
     At(i64),
-}
-
-/// What a file and a directory have in common.
-#[derive(Clone, Copy, Debug)]
-pub struct Node {
-    pub attributes: Attributes,
-    /// Whether a directory has a name of it.
-    pub has_name: bool,
 }
 
 /// Who makes something, and when.
@@ -54,55 +25,21 @@ pub struct Maker {
     pub time: TimeSpec,
 }
 
-/// What a name in a directory means.
-#[derive(Debug, Drop)]
-pub struct Entry {
-    pub name: NameText,
-    /// The inode.
-    pub child: u64,
-}
-
-/// A directory.
-#[derive(Debug, Drop)]
-pub struct Directory {
-    /// The directory that it lies in. The root lies in itself.
-    pub parent: u64,
-    /// The last position given to a name, so that none is given again.
-    pub last: u64,
-    /// The entries by position. `.` and `..` stand at 1 and 2 and aren't among them.
-    pub names: Table<Entry>,
-}
-
-/// The place that the steps of a path to its last name lead to, and that name.
-#[derive(Clone, Copy, Debug)]
-pub struct Last<'a> {
-    pub place: u64,
-    /// No bytes, where the path has no name: it means the place.
-    pub name: &'a [u8],
-}
-
-/// The inode numbers.
-#[derive(Debug, Drop)]
-pub struct InodeNumbers {
-    /// Those that lines of the image name.
-    pub image: Table<()>,
-    /// The least that may be given to what a call makes.
-    pub next: u64,
-}
-
-/// Files, directories and what is open of them.
+/// Files, directories, pipes and what is open of them.
 #[derive(Debug, Drop)]
 pub struct Files {
     /// By number.
     pub(crate) descriptors: Table<Descriptor>,
     /// By serial number.
     pub(crate) open_files: SlabMap<OpenFile>,
-    /// What files and directories have in common, by inode number, as the next three.
+    /// What files and directories have in common, by inode number, as the next four.
     pub(crate) nodes: Table<Node>,
     pub(crate) directories: Table<Directory>,
     pub(crate) contents: Contents,
+    /// The bytes that wait in pipes.
+    pub(crate) pipes: Pipes,
     /// The locks that the process has, by the inode number of their file.
-    pub(crate) own_locks: Table<LockList>,
+    pub(crate) own_locks: OwnLocks,
     /// The locks that other processes have, in the order of the image's lines.
     pub(crate) foreign_locks: ItemList<ForeignLock>,
     pub(crate) numbers: InodeNumbers,

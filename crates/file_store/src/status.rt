@@ -1,15 +1,13 @@
 //! What is told of a file, a directory or a pipe.
 
-ghost use Rattle.std.specs.Prelude.{◌≡◌, ℕ, ◌+◌, ◌*◌, ◌-◌, ◌^◌, ◌==◌, ◌≤◌, min, pos, false, length, if◌then◌else◌};
+ghost use Rattle.std.specs.Prelude.{◌≡◌, ◌^◌, ◌≤◌};
 ghost use Rattle.kernel_values.specs.Outcome.{Tells};
-ghost use Rattle.file_store.specs.Directories.{is_directory};
-ghost use Rattle.file_store.specs.Status.{allows_empty_path, directory_links, inode_status, is_status_flags, links_of, node_status, path_status, pipe_status, place_status, status, status_at, status_with};
+ghost use Rattle.file_store.specs.Status.{allows_empty_path, inode_status, is_status_flags, links_of, path_status, pipe_status, place_status, status, status_at, status_with};
 
-use crate::descriptors::is_of_pipe;
 use crate::image::NO_TIME;
 use crate::paths::is_working;
-use crate::state::{Directory, Files, Maker, Node};
-use crate::table::Table;
+use crate::state::{Files, Maker};
+use file_tables::{Node, is_of_pipe};
 use kernel_values::{Attributes, Errno, Stat};
 
 /// The device that all files are on.
@@ -74,29 +72,6 @@ fn allows_empty_path(flags: i64) -> bool
     ensures { result ≡ allows_empty_path flags }
 {
     flags >= 0 && flags & EMPTY_PATH == EMPTY_PATH
-}
-
-impl Table<Directory> {
-    /// What an inode adds to the links of the directory that has a name of it: its `..`, where it is a directory.
-    fn links_from(&self, inode: u64) -> u32
-        ensures { result ≡ (if is_directory self.now inode then 1 else 0) }
-    {
-        if self.has(inode) { 1 } else { 0 }
-    }
-
-    /// The links of a directory: its name, its `.`, and the `..` of each directory in it, or the greatest number.
-    #[tactic(auto, using(crate::proofs::Links::no_directories, crate::proofs::Links::first_directory, crate::proofs::Links::sum_stops, crate::proofs::Links::sum_ends, crate::proofs::Links::fewer_names))]
-    fn directory_links(&self, directory: &Directory) -> u32
-        ensures { result ≡ directory_links self.now directory.now }
-    {
-        let mut links: u32 = 2;
-        let mut last = None;
-        while let Some((position, entry)) = directory.names.after(last) {
-            links = links.saturating_add(self.links_from(entry.child));
-            last = Some(position);
-        }
-        links
-    }
 }
 
 impl Files {

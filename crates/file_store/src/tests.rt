@@ -5,9 +5,10 @@ use std::test::Fail;
 
 mod directories;
 mod lengths;
+mod pipes;
 mod status;
 
-const LIMIT: u64 = 1024;
+const LIMIT: u32 = 1024;
 
 const MAKER: Maker = Maker {
     uid: 8,
@@ -49,6 +50,13 @@ fn told(answer: Answer<u64>) -> i64 {
     }
 }
 
+fn told_number(answer: Answer<u32>) -> i64 {
+    match answer {
+        Ok(number) => number as i64,
+        Err(fault) => told_fault(fault),
+    }
+}
+
 fn done(answer: Answer<()>) -> i64 {
     match answer {
         Ok(()) => 0,
@@ -68,7 +76,7 @@ impl Desk {
     // Opens with a word of ia32.
     fn open(&mut self, path: &[u8], word: u32) -> i64 {
         let flags = OpenFlags::from_word(AbiKind::Ia32, word);
-        told(
+        told_number(
             self.files
                 .open_by_path(self.alloc, LIMIT, &MAKER, WORKING, path, flags, 0o644),
         )
@@ -82,16 +90,16 @@ impl Desk {
         )
     }
 
-    fn dup2(&mut self, limit: u64, fd: i64, new: i64) -> i64 {
-        told(self.files.duplicate_to(limit, fd, new, 1, false))
+    fn dup2(&mut self, limit: u32, fd: i64, new: i64) -> i64 {
+        told_number(self.files.duplicate_to(limit, fd, new, 1, false))
     }
 
     fn dup3(&mut self, fd: i64, new: i64, flags: u32) -> i64 {
-        told(self.files.duplicate_to(LIMIT, fd, new, flags, true))
+        told_number(self.files.duplicate_to(LIMIT, fd, new, flags, true))
     }
 
     fn duplicate(&mut self, fd: i64) -> i64 {
-        told(self.files.duplicate(LIMIT, fd, -1, false))
+        told_number(self.files.duplicate(LIMIT, fd, -1, false))
     }
 
     fn closes(&mut self, fd: i64) -> bool {

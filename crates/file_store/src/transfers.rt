@@ -1,18 +1,16 @@
-//! Reads and writes of files.
+//! Reads and writes of files and pipes.
 
 ghost use Rattle.std.specs.Prelude.{◌≡◌, ◌≢◌, ℕ, ◌-◌, ◌+◌, ◌<◌, ◌≤◌, ◌^◌, Some, IsSome, IfOk, OnOk, OnErr, length, take, drop, ◌⊎◌};
-ghost use Rattle.kernel_values.specs.Outcome.{Gives, OnOutOfMemory, Tells};
-ghost use Rattle.file_store.specs.Table.{at};
+ghost use Rattle.kernel_values.specs.Outcome.{Gives, OnOutOfMemory, Tells, settled};
+ghost use Rattle.number_maps.specs.NumberMap.{at};
 ghost use Rattle.file_store.specs.Contents.{content_of};
-ghost use Rattle.file_store.specs.Transfers.{MovesBytes, bytes_left, moved_on, place_of, read, size_limit, with_bytes, with_written, write, write_place};
+ghost use Rattle.file_store.specs.Transfers.{MovesBytes, bytes_left, moved_on, place_of, read, read_file, size_limit, with_bytes, with_written, write, write_file, write_place};
 
-use crate::descriptors::{FILE_END, is_of_directory, is_of_pipe};
-use crate::state::{Files, OpenFile, Place};
+use crate::descriptors::{FILE_END, SMALL_SIZE};
+use crate::state::{Files, Place};
+use file_tables::{OpenFile, is_of_directory, is_of_pipe};
 use kernel_values::{Answer, Errno, KernelFault, OutOfMemory, TimeSpec};
 use std::alloc::Global;
-
-/// The most bytes that a file may get without O_LARGEFILE.
-const SMALL_SIZE: u64 = 0x7fff_ffff;
 
 /// Where a transfer begins. EINVAL below 0.
 fn place_of(file: &OpenFile, place: Place) -> Result<u64, Errno>
@@ -45,6 +43,7 @@ impl Files {
     fn bytes_left(&self, file: &OpenFile, start: u64, wanted: u64) -> u64
         ensures count { result ≡ bytes_left self.now file.now start wanted }
         ensures end { start + result < 2 ^ 64 }
+        ensures most { result ≤ wanted }
     {
         wanted.min(self.contents.len(file.inode).saturating_sub(start))
     }
@@ -69,6 +68,7 @@ impl Files {
     ) -> Result<Vec<u8>, OutOfMemory>
         requires { count ≡ 0 ⊎ (start + count ≤ length (content_of self.now.contents inode)) }
         ensures bytes { IfOk result (λ v. v.items ≡ take count (drop start (content_of self.now.contents inode))) }
+        ensures count { IfOk result (λ v. length v.items ≤ count) }
         ensures wanting { OnErr result (0 < length (take count (drop start (content_of self.now.contents inode)))) }
     {
         let mut out = Vec::new(alloc);
@@ -79,11 +79,39 @@ impl Files {
         Ok(out)
     }
 
-    /// read and pread64: gives bytes, at most `wanted` and at most as many as there is `room` for in memory.
+    /// Reads a file. EINVAL for a place below 0; EFAULT where bytes could be read and there is no room.
+    #[tactic(auto, using(crate::proofs::Moves::some_moved), unfolding(crate::specs::Transfers::read_file))]
+    fn read_file(
+        &mut self,
+        alloc: Global,
+        serial: u64,
+        file: OpenFile,
+        wanted: u64,
+        room: u64,
+        place: Place,
+    ) -> Answer<Vec<u8>>
+        requires { IsSome (at self.old.open_files serial) }
+        ensures gives { Gives (λ v. v.items) result self.new (settled self.old (read_file self.old (serial, file) wanted room place)) }
+        ensures count { IfOk result (λ v. length v.items ≤ wanted) }
+        ensures space { IfOk result (λ v. length v.items ≤ room) }
+        ensures moves { OnOutOfMemory result (MovesBytes (settled self.old (read_file self.old (serial, file) wanted room place)).0) }
+    {
+        let start = place_of(&file, place)?;
+        let left = self.bytes_left(&file, start, wanted);
+        if left != 0 && room == 0 {
+            return Err(KernelFault::Errno(Errno::BadAddress));
+        }
+        let count = left.min(room);
+        let bytes = self.bytes_at(alloc, file.inode, start, count)?;
+        self.move_on(serial, file, place, start + count);
+        Ok(bytes)
+    }
+
+    /// read and pread64: gives bytes, at most `wanted` and at most as many as there is `room` for in memory. From an empty
+    /// pipe that nothing is open to write to it gives none.
     ///
-    /// EBADF, also where it isn't open for reading; EISDIR; ESPIPE for a pipe; EINVAL for a place below 0; EFAULT where bytes
-    /// could be read and there is no room. Memory may be wanting only where bytes are read.
-    #[tactic(auto, using(crate::proofs::Moves::some_moved))]
+    /// EBADF, also where it isn't open for reading; EISDIR; ESPIPE for a place in a pipe; EINVAL for one below 0; EAGAIN for an
+    /// empty pipe; EFAULT where bytes could be read and there is no room. Memory may be wanting only where bytes are read.
     pub fn read(
         &mut self,
         alloc: Global,
@@ -93,6 +121,8 @@ impl Files {
         place: Place,
     ) -> Answer<Vec<u8>>
         ensures gives { Gives (λ v. v.items) result self.new (read self.old fd wanted room place) }
+        ensures count { IfOk result (λ v. length v.items ≤ wanted) }
+        ensures space { IfOk result (λ v. length v.items ≤ room) }
         ensures moves { OnOutOfMemory result (MovesBytes (read self.old fd wanted room place).0) }
     {
         let (serial, file) = self.open_file(fd)?;
@@ -103,17 +133,9 @@ impl Files {
             return Err(KernelFault::Errno(Errno::IsDirectory));
         }
         if is_of_pipe(file.kind) {
-            return Err(KernelFault::Errno(Errno::IllegalSeek));
+            return self.read_pipe(alloc, file.inode, wanted, room, place);
         }
-        let start = place_of(&file, place)?;
-        let left = self.bytes_left(&file, start, wanted);
-        if left != 0 && room == 0 {
-            return Err(KernelFault::Errno(Errno::BadAddress));
-        }
-        let count = left.min(room);
-        let bytes = self.bytes_at(alloc, file.inode, start, count)?;
-        self.move_on(serial, file, place, start + count);
-        Ok(bytes)
+        self.read_file(alloc, serial, file, wanted, room, place)
     }
 
     /// Where a write begins: at the end with O_APPEND. EINVAL below 0.
@@ -159,32 +181,23 @@ impl Files {
         Ok(())
     }
 
-    /// write and pwrite64: of the `wanted` bytes as many as the file may get and as `piece` has, which are
-    /// those that memory gave. It gives how many. `now` is the real time, which the file's times are set to.
-    ///
-    /// EBADF, also where it isn't open for writing; EISDIR; ESPIPE for a pipe; EINVAL for a place below 0; EFBIG at or past the
-    /// limit of sizes; EFAULT where bytes could be written and there is none.
-    pub fn write(
+    /// Writes a file. EINVAL for a place below 0; EFBIG at or past the limit of sizes; EFAULT where bytes could be written and
+    /// there is none.
+    #[tactic(auto, unfolding(crate::specs::Transfers::write_file))]
+    fn write_file(
         &mut self,
         alloc: Global,
         now: TimeSpec,
-        fd: i64,
+        serial: u64,
+        file: OpenFile,
         wanted: u64,
         piece: &[u8],
         place: Place,
     ) -> Answer<u64>
-        ensures { Gives (λ n. n) result self.new (write self.old now fd wanted piece.now place) }
+        requires { IsSome (at self.old.open_files serial) }
+        ensures gives { Gives (λ n. n) result self.new (settled self.old (write_file self.old now (serial, file) wanted piece.now place)) }
+        ensures count { IfOk result (λ n. n ≤ wanted) }
     {
-        let (serial, file) = self.open_file(fd)?;
-        if !file.flags.can_write() {
-            return Err(KernelFault::Errno(Errno::BadDescriptor));
-        }
-        if is_of_directory(file.kind) {
-            return Err(KernelFault::Errno(Errno::IsDirectory));
-        }
-        if is_of_pipe(file.kind) {
-            return Err(KernelFault::Errno(Errno::IllegalSeek));
-        }
         let start = self.write_place(&file, place)?;
         if wanted == 0 {
             return Ok(0);
@@ -200,5 +213,36 @@ impl Files {
         self.store_at(alloc, now, file.inode, start, &piece[..count as usize])?;
         self.move_on(serial, file, place, start + count);
         Ok(count)
+    }
+
+    /// write and pwrite64: of the `wanted` bytes as many as the file may get, or as the pipe has room for, and as `piece` has,
+    /// which are those that memory gave. It gives how many. `now` is the real time, which a file's times are set to.
+    ///
+    /// EBADF, also where it isn't open for writing; EISDIR; ESPIPE for a place in a pipe; EINVAL for one below 0; EPIPE for a
+    /// pipe that nothing is open to read from; EAGAIN for one without room; EFBIG at or past the limit of sizes; EFAULT where
+    /// bytes could be written and there is none.
+    pub fn write(
+        &mut self,
+        alloc: Global,
+        now: TimeSpec,
+        fd: i64,
+        wanted: u64,
+        piece: &[u8],
+        place: Place,
+    ) -> Answer<u64>
+        ensures gives { Gives (λ n. n) result self.new (write self.old now fd wanted piece.now place) }
+        ensures count { IfOk result (λ n. n ≤ wanted) }
+    {
+        let (serial, file) = self.open_file(fd)?;
+        if !file.flags.can_write() {
+            return Err(KernelFault::Errno(Errno::BadDescriptor));
+        }
+        if is_of_directory(file.kind) {
+            return Err(KernelFault::Errno(Errno::IsDirectory));
+        }
+        if is_of_pipe(file.kind) {
+            return self.write_pipe(file.inode, wanted, piece, place);
+        }
+        self.write_file(alloc, now, serial, file, wanted, piece, place)
     }
 }

@@ -1,4 +1,5 @@
 pub mod ClockState
+pub mod LimitState
 pub mod Clocks
 pub mod Limits
 pub mod Usages

@@ -4,10 +4,10 @@ use Rattle.kernel_values.specs.Outcome.{◌>>=◌, ◌>>◌, refused_if, settled
 use Rattle.kernel_values.specs.declared.errno.Errno.{Errno}
 use Rattle.kernel_values.specs.declared.errno.Errno.TheVariants.{InvalidArgument, NotPermitted}
 use Rattle.kernel_values.specs.declared.times.Limit.{Limit}
-use Rattle.native_kernel.specs.declared.state.Limits.{Limits}
+use Rattle.native_kernel.specs.LimitState.{LimitState}
 
 -- resources are 0 to 15
-abbrev pub held_limit : Limits → ℕ → Result Limit Errno
+abbrev pub held_limit : LimitState → ℕ → Result Limit Errno
 held_limit l resource = ok_or (slice_get l.held resource) InvalidArgument
 
 abbrev pub soft_of : Option Limit → ℕ
@@ -15,16 +15,16 @@ soft_of (Some held) = held.soft
 soft_of None = 0
 
 -- the limit that holds, 0 for a number that there isn't
-abbrev pub soft_limit : Limits → ℕ → ℕ
+abbrev pub soft_limit : LimitState → ℕ → ℕ
 soft_limit l resource = soft_of (slice_get l.held resource)
 
-abbrev pub limit : Limits → ℕ → Result Limit Errno × Limits
+abbrev pub limit : LimitState → ℕ → Result Limit Errno × LimitState
 limit l resource = settled l (do
   held ← held_limit l resource
   Ok (held, l))
 
 -- no more than 2^20 descriptors, even with the privilege
-abbrev pub set_limit : Limits → Bool → ℕ → Limit → Result ⊤ Errno × Limits
+abbrev pub set_limit : LimitState → Bool → ℕ → Limit → Result ⊤ Errno × LimitState
 set_limit l privileged resource new = settled l (do
   held ← held_limit l resource
   refused_if (nat_lt new.hard new.soft) InvalidArgument
@@ -37,5 +37,5 @@ abbrev pub infinity : Limit
 infinity = record { soft = 2 ^ 64 - 1; hard = 2 ^ 64 - 1 }
 
 -- all start at infinity but RLIMIT_NOFILE, 7
-unfoldable pub starting_limits : Limits
+unfoldable pub starting_limits : LimitState
 starting_limits = record { held = slice_set (replicate 16 infinity) 7 (record { soft = 1024; hard = 4096 }) }

@@ -1,4 +1,4 @@
--- One definition for each call of the kernel: its answer, and the state after it. A row opens none.
+-- One definition for each call of the kernel: its answer, and the state after it. A row opens none, but the seek that ends a listing.
 use Rattle.std.specs.Prelude.{Bool, ℕ, ℤ, negsuc, List, Option, Some, None, Result, ⊤}
 use Rattle.kernel_values.specs.declared.errno.Errno.{Errno}
 use Rattle.kernel_values.specs.declared.status.FileTimes.{FileTimes}
@@ -22,6 +22,7 @@ use Rattle.file_store.specs.Listing as listing_of
 use Rattle.file_store.specs.Locks as locks
 use Rattle.file_store.specs.NewDirectory as new_directory
 use Rattle.file_store.specs.Opening as opening
+use Rattle.file_store.specs.Piping as piping
 use Rattle.file_store.specs.Removing as removing
 use Rattle.file_store.specs.Renaming as renaming
 use Rattle.file_store.specs.Retiming as retiming
@@ -100,6 +101,10 @@ duplicate k fd least cloexec = on_files k (descriptors.duplicate k.files (most_d
 
 unfoldable pub duplicate_to : Kernel → ℤ → ℤ → ℕ → Bool → Result ℕ Errno × Kernel
 duplicate_to k fd new flags three = on_files k (descriptors.duplicate_to k.files (most_descriptors k) fd new flags three)
+
+-- both ends of a pipe
+unfoldable pub pipe : Kernel → ℕ → Result (ℕ × ℕ) Errno × Kernel
+pipe k flags = on_files k (piping.pipe k.files (most_descriptors k) flags)
 
 unfoldable pub fd_flags : Kernel → ℤ → Result ℕ Errno × Kernel
 fd_flags k fd = on_files k (descriptors.fd_flags k.files fd)

@@ -22,7 +22,7 @@ impl Kernel {
     }
 
     /// Removes the name of a file, or with the flag `AT_REMOVEDIR`, 0x200, a directory. EINVAL for other flags. Of a file
-    /// what refuses the path, ENOENT, EISDIR. Of a directory what refuses the steps to the last name, EINVAL for `.`,
+    /// what refuses the path, ENOENT, EISDIR. Of a directory what refuses the steps to the last name, its length and its place, EINVAL for `.`,
     /// ENOTEMPTY for `..`, EBUSY for the root, ENOENT, ENOTDIR, ENOTEMPTY, EBUSY. It takes no memory.
     #[tactic(auto, unfolding(crate::specs::Operations::remove))]
     pub fn remove(&mut self, from: i64, path: &[u8], flags: i64) -> Answer<()>
@@ -33,8 +33,9 @@ impl Kernel {
     }
 
     /// Gives what one path names the name of another path. ENFILE; what refuses the steps to both last names; EBUSY for
-    /// `.`, `..` and the root; ENOENT; ENOTDIR; EINVAL for a directory into itself; ENOTDIR, ENOTEMPTY, EBUSY and EISDIR
-    /// by what has the new name.
+    /// `.`, `..` and the root; ENOTDIR and ENOENT of the old name, ENOTDIR of the new one; ENOTDIR for a file and a missing
+    /// name with a slash at its end; EINVAL for a directory into itself; ENOTDIR, ENOTEMPTY, EBUSY and EISDIR by what has the
+    /// new name.
     #[tactic(auto, unfolding(crate::specs::Operations::rename_path))]
     pub fn rename(&mut self, alloc: Global, old: &[u8], new: &[u8]) -> Answer<()>
         ensures { Gives (λ _. tt) result self.new (rename_path self.old old.now new.now) }

@@ -48,6 +48,15 @@ fn told(answer: Answer<u64>) -> i64 {
     }
 }
 
+fn ends(answer: Answer<(u32, u32)>) -> i64 {
+    match answer {
+        Ok((first, second)) => i64::from(first)
+            .saturating_mul(100)
+            .saturating_add(i64::from(second)),
+        Err(fault) => told_fault(fault),
+    }
+}
+
 fn done(answer: Answer<()>) -> i64 {
     match answer {
         Ok(()) => 0,
@@ -61,7 +70,8 @@ impl Desk {
         let flags = OpenFlags::from_word(AbiKind::Ia32, word);
         told(
             self.kernel
-                .open_by_path(self.alloc, WORKING, path, flags, 0o644),
+                .open_by_path(self.alloc, WORKING, path, flags, 0o644)
+                .map(u64::from),
         )
     }
 
@@ -92,12 +102,23 @@ impl Desk {
         }
     }
 
+    /// The ends of a pipe, as 100 times the first and the second, as they are foretold and as they are made.
+    fn pipe(&mut self, flags: u32) -> [i64; 2] {
+        let foretold = self.kernel.would_pipe(flags);
+        let made = self.kernel.pipe(self.alloc, flags);
+        [ends(foretold.map_err(KernelFault::Errno)), ends(made)]
+    }
+
     fn dup(&mut self, fd: i64) -> i64 {
-        told(self.kernel.duplicate(fd, -1, false))
+        told(self.kernel.duplicate(fd, -1, false).map(u64::from))
     }
 
     fn dup3(&mut self, fd: i64, new: i64, flags: u32) -> i64 {
-        told(self.kernel.duplicate_to(fd, new, flags, true))
+        told(
+            self.kernel
+                .duplicate_to(fd, new, flags, true)
+                .map(u64::from),
+        )
     }
 
     /// The flags of a descriptor before and after they are set.
@@ -218,6 +239,22 @@ fn an_open_file_is_read_and_written(rt: HostRuntime) -> Result<(), Fail> {
     assert!(rt; desk.reads(0, 9, b"axy\0\0"));
     assert_eq!(rt; desk.close(0), 0);
     assert_eq!(rt; desk.close(0), -9);
+    Ok(())
+}
+
+#[test]
+fn a_pipe_is_written_and_read(rt: HostRuntime) -> Result<(), Fail> {
+    let mut desk = image(rt.alloc())?;
+    assert_eq!(rt; desk.pipe(1), [-22, -22]);
+    assert_eq!(rt; desk.pipe(0x8_0800), [1, 1]);
+    assert_eq!(rt; desk.marks(1, 0), [1, 0]);
+    assert_eq!(rt; desk.flags(1), 0x801);
+    assert_eq!(rt; desk.write(1, b"ab"), 2);
+    assert!(rt; desk.reads(0, 1, b"a"));
+    assert_eq!(rt; desk.seek(0, 0, 0), -29);
+    assert_eq!(rt; desk.pipe(0), [203, 203]);
+    assert_eq!(rt; desk.close(0), 0);
+    assert_eq!(rt; desk.write(1, b"c"), -32);
     Ok(())
 }
 

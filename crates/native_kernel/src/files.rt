@@ -1,11 +1,10 @@
 //! The calls of the kernel on files and descriptors: each is its part's call on that part of the state.
 
-ghost use Rattle.std.specs.Prelude.{◌≡◌, ◌≤◌, ◌^◌};
+ghost use Rattle.std.specs.Prelude.{◌≡◌, ◌≤◌, ◌^◌, length, IfOk};
 ghost use Rattle.kernel_values.specs.Outcome.{Gives, GivesAlways, GivesTold, OnOutOfMemory};
 ghost use Rattle.file_store.specs.Transfers.{MovesBytes};
 ghost use Rattle.native_kernel.specs.Operations.{can_use, change_dir, close, current_dir, duplicate, duplicate_to, fd_flags, image_bytes, image_directory, image_file, maker, most_descriptors, open_flags, open_path, read, seek, set_fd_flags, set_open_flags, write};
 
-use crate::limits::OPEN_FILES;
 use crate::state::Kernel;
 use file_store::{Maker, Place, WORKING};
 use kernel_values::{Answer, ByteList, OpenFlags, TimeSpec};
@@ -14,10 +13,10 @@ use std::alloc::Global;
 impl Kernel {
     /// The soft limit of descriptors.
     #[tactic(auto, unfolding(crate::specs::Operations::most_descriptors))]
-    fn most_descriptors(&self) -> u64
+    pub(crate) fn most_descriptors(&self) -> u32
         ensures { result ≡ most_descriptors self.now }
     {
-        self.limits.soft(OPEN_FILES)
+        self.limits.most_descriptors()
     }
 
     /// Who makes a file, and when.
@@ -51,7 +50,7 @@ impl Kernel {
         path: &[u8],
         flags: OpenFlags,
         mode: u32,
-    ) -> Answer<u64>
+    ) -> Answer<u32>
         ensures { Gives (λ n. n) result self.new (open_path self.old from path.now flags mode) }
     {
         let limit = self.most_descriptors();
@@ -68,8 +67,9 @@ impl Kernel {
         self.files.close(fd)
     }
 
-    /// Reads bytes, at most `wanted` and at most `room`. EBADF, also where it isn't open for reading; EISDIR; EINVAL for
-    /// an offset below 0; EFAULT where bytes could move and there is no room. Memory may be wanting only where bytes move.
+    /// Reads bytes, at most `wanted` and at most `room`. EBADF, also where it isn't open for reading; EISDIR; of a pipe
+    /// ESPIPE for an offset, and EAGAIN where no bytes wait and an end is open for writing; EINVAL for an offset below 0;
+    /// EFAULT where bytes could move and there is no room. Memory may be wanting only where bytes move.
     #[tactic(auto, unfolding(crate::specs::Operations::read))]
     pub fn read(
         &mut self,
@@ -80,15 +80,18 @@ impl Kernel {
         place: Place,
     ) -> Answer<ByteList>
         ensures given { Gives (λ v. v) result self.new (read self.old fd wanted room place) }
+        ensures count { IfOk result (λ v. length v ≤ wanted) }
+        ensures space { IfOk result (λ v. length v ≤ room) }
         ensures moves { OnOutOfMemory result (MovesBytes (read self.old fd wanted room place).0) }
     {
         let bytes = self.files.read(alloc, fd, wanted, room, place)?;
         Ok(ByteList::from_vec(bytes))
     }
 
-    /// Writes bytes: of the `wanted` ones as many as fit below the file's limit and as `piece` has. EBADF, also where it
-    /// isn't open for writing; EISDIR; EINVAL for an offset below 0; EFBIG; EFAULT where bytes could move and `piece` is
-    /// empty.
+    /// Writes bytes: of the `wanted` ones as many as fit below the file's limit, or into the pipe, and as `piece` has.
+    /// EBADF, also where it isn't open for writing; EISDIR; of a pipe ESPIPE for an offset, EPIPE where no end is open for
+    /// reading, and EAGAIN where they don't fit; EINVAL for an offset below 0; EFBIG; EFAULT where bytes could move and
+    /// `piece` is empty.
     #[tactic(auto, unfolding(crate::specs::Operations::write))]
     pub fn write(
         &mut self,
@@ -98,14 +101,16 @@ impl Kernel {
         piece: &[u8],
         place: Place,
     ) -> Answer<u64>
-        ensures { Gives (λ n. n) result self.new (write self.old fd wanted piece.now place) }
+        ensures gives { Gives (λ n. n) result self.new (write self.old fd wanted piece.now place) }
+        ensures count { IfOk result (λ n. n ≤ wanted) }
     {
         let now = TimeSpec::of_nanoseconds(self.clocks.real());
         self.files.write(alloc, now, fd, wanted, piece, place)
     }
 
-    /// Moves the position: whence 0 from the start, 1 from the position, 2 from the end. EBADF; EINVAL for another
-    /// whence and for a position that there can't be. It takes no memory.
+    /// Moves the position: whence 0 from the start, 1 from the position, 2 from the end. EBADF; ESPIPE for a pipe; EINVAL
+    /// for another whence, for a position below 0 or above 2^40, and for a directory from its end or above 2^31 - 1. It
+    /// takes no memory.
     #[tactic(auto, unfolding(crate::specs::Operations::seek))]
     pub fn seek(&mut self, fd: i64, offset: i64, whence: u32) -> Answer<i64>
         ensures { GivesAlways (λ p. p) result self.new (seek self.old fd offset whence) }
@@ -116,7 +121,7 @@ impl Kernel {
     /// Another descriptor of the same open file, the lowest free one from `least` on; `dup` where `least` is negative.
     /// EBADF; EINVAL for a `least` at or above the limit; EMFILE; ENFILE.
     #[tactic(auto, unfolding(crate::specs::Operations::duplicate))]
-    pub fn duplicate(&mut self, fd: i64, least: i64, cloexec: bool) -> Answer<u64>
+    pub fn duplicate(&mut self, fd: i64, least: i64, cloexec: bool) -> Answer<u32>
         ensures { Gives (λ n. n) result self.new (duplicate self.old fd least cloexec) }
     {
         let limit = self.most_descriptors();
@@ -126,7 +131,7 @@ impl Kernel {
     /// Makes a number name the same open file, as dup2 does, or as dup3 where `three` holds. EBADF; for dup3 EINVAL for
     /// flags other than `O_CLOEXEC` and for the same number; EBADF for a negative number and one at or above the limit.
     #[tactic(auto, unfolding(crate::specs::Operations::duplicate_to))]
-    pub fn duplicate_to(&mut self, fd: i64, new: i64, flags: u32, three: bool) -> Answer<u64>
+    pub fn duplicate_to(&mut self, fd: i64, new: i64, flags: u32, three: bool) -> Answer<u32>
         ensures { Gives (λ n. n) result self.new (duplicate_to self.old fd new flags three) }
     {
         let limit = self.most_descriptors();
@@ -176,7 +181,8 @@ impl Kernel {
     /// The path of the working directory with a zero at its end. ENAMETOOLONG above 4,096 bytes, ERANGE above `size`.
     #[tactic(auto, unfolding(crate::specs::Operations::current_dir))]
     pub fn current_dir(&self, alloc: Global, size: u64) -> Answer<ByteList>
-        ensures { GivesTold (λ v. v) result (current_dir self.now size) }
+        ensures told { GivesTold (λ v. v) result (current_dir self.now size) }
+        ensures length { IfOk result (λ v. length v ≤ 4096) }
     {
         let text = self.files.current_directory(alloc, size)?;
         Ok(ByteList::from_vec(text))
@@ -198,7 +204,7 @@ impl Kernel {
         self.files.image_file(alloc, path, inode, size)
     }
 
-    /// Puts bytes into a file of the image. What refuses the path; EFBIG.
+    /// Puts bytes into a file of the image. EFBIG where they end above 2^40 bytes; what refuses the path.
     #[tactic(auto, unfolding(crate::specs::Operations::image_bytes))]
     pub fn image_bytes(
         &mut self,

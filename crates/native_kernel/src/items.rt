@@ -20,7 +20,7 @@ pub enum StateCursor {
     Ended,
     /// At the limits from a number on.
     Limits(u32),
-    /// At files, directories and descriptors.
+    /// At files, with all that `FileCursor` tells.
     Files(FileCursor),
 }
 
@@ -33,6 +33,22 @@ fn is_starting(resource: u32, limit: &Limit) -> bool
     } else {
         limit.soft == u64::MAX && limit.hard == u64::MAX
     }
+}
+
+/// The first limit from a number on that isn't as at the start, and its number.
+#[tactic(auto, using(crate::proofs::LimitItems::limit_end, crate::proofs::LimitItems::limit_here, crate::proofs::LimitItems::limit_next))]
+fn changed_limit(held: &[Limit; 16], first: u32) -> Option<(u32, Limit)>
+    ensures next { MatchOption result (limit_items first (drop first held.now) ≡ [])
+        (λ l. limit_items first (drop first held.now) ≡ item.Limit l.0 l.1 ∷ limit_items (l.0 + 1) (drop (l.0 + 1) held.now)) }
+    ensures small { IfSome result (λ l. l.0 < 16) }
+{
+    for resource in first..16 {
+        let limit = held[resource as usize];
+        if !is_starting(resource, &limit) {
+            return Some((resource, limit));
+        }
+    }
+    None
 }
 
 /// An item, and the cursor at those behind it.
@@ -57,27 +73,11 @@ impl Kernel {
         }
     }
 
-    /// The number of the first limit from one on that isn't as at the start.
-    #[tactic(auto, using(crate::proofs::LimitItems::limit_end, crate::proofs::LimitItems::limit_here, crate::proofs::LimitItems::limit_next))]
-    fn changed_limit(&self, first: u32) -> Option<(u32, Limit)>
-        ensures next { MatchOption result (limit_items first (drop first self.now.limits.held) ≡ [])
-            (λ l. limit_items first (drop first self.now.limits.held) ≡ item.Limit l.0 l.1 ∷ limit_items (l.0 + 1) (drop (l.0 + 1) self.now.limits.held)) }
-        ensures small { IfSome result (λ l. l.0 < 16) }
-    {
-        for resource in first..16 {
-            let limit = self.limits.held[resource as usize];
-            if !is_starting(resource, &limit) {
-                return Some((resource, limit));
-            }
-        }
-        None
-    }
-
     #[tactic(auto, unfolding(crate::specs::Items::left))]
     fn limit_item(&self, alloc: Global, first: u32) -> Result<Told, OutOfMemory>
         ensures { IfOk result (λ told. TellsFirst (left self.now) (StateCursor.Limits first) told) }
     {
-        match self.changed_limit(first) {
+        match changed_limit(&self.limits.held, first) {
             Some((resource, limit)) => {
                 let item = StateItem::Limit { resource, limit };
                 Ok(Some((item, StateCursor::Limits(resource + 1))))

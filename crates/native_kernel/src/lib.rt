@@ -11,6 +11,7 @@ mod kernel;
 mod lengths;
 mod limits;
 mod locks;
+mod pipes;
 mod state;
 mod status;
 

@@ -23,12 +23,12 @@ impl Limits {
         }
     }
 
-    /// The limit that holds, 0 for a number that there isn't.
-    pub(crate) fn soft(&self, resource: u32) -> u64
-        ensures { result ≡ soft_limit self.now resource }
+    /// The soft limit of descriptors.
+    pub(crate) fn most_descriptors(&self) -> u32
+        ensures { result ≡ soft_limit self.now 7 }
     {
-        match self.held.get(resource as usize) {
-            Some(held) => held.soft,
+        match self.held.get(OPEN_FILES as usize) {
+            Some(held) => held.soft as u32,
             None => 0,
         }
     }
@@ -36,6 +36,7 @@ impl Limits {
     /// Sets a limit. EINVAL for a number above 15 and for a soft limit above the hard
     /// one; then EPERM for a raised hard limit without the privilege, and for more
     /// descriptors than any process may have.
+    #[tactic(auto, using(crate::proofs::FewDescriptors::few_kept))]
     pub fn set_limit(&mut self, privileged: bool, resource: u32, new: &Limit) -> Answer<()>
         ensures { GivesAlways (λ _. tt) result self.new (set_limit self.old privileged resource new.now) }
     {

@@ -1,7 +1,8 @@
 //! The types of the state alone, so that the definitions may name them.
 
-ghost use Rattle.std.specs.Prelude.{◌<◌, ◌^◌};
+ghost use Rattle.std.specs.Prelude.{◌<◌, ◌^◌, slice_get};
 ghost use Rattle.native_kernel.specs.ClockState.{ClockState};
+ghost use Rattle.native_kernel.specs.LimitState.{AllowsFew, LimitState};
 
 use file_store::Files;
 use kernel_values::{End, Limit, TimeSpec, Usage};
@@ -57,11 +58,20 @@ impl Model for Clocks {
     ghost invariant = { λ c. (c.real < 2 ^ 62) × (c.monotonic < 2 ^ 62) };
 }
 
-/// The sixteen limits of a process, by the numbers of `include/uapi/asm-generic/resource.h`.
+/// The sixteen limits of a process, by the numbers of `include/uapi/asm-generic/resource.h`. That of descriptors is never
+/// above 2^20.
 #[derive(Debug, Drop)]
 pub struct Limits {
     /// The limit of each resource.
-    pub held: [Limit; 16],
+    pub(crate) held: [Limit; 16],
+}
+
+impl Model for Limits {
+    ghost Value = { LimitState };
+
+    ghost view = { λ l. record { held = l.held } };
+
+    ghost invariant = { λ l. AllowsFew (slice_get l.held 7) };
 }
 
 /// The state of the modelled kernel, for one process.
@@ -70,7 +80,7 @@ pub struct Kernel {
     pub process: Process,
     pub clocks: Clocks,
     pub limits: Limits,
-    /// Files, directories and descriptors.
+    /// Files, directories, pipes, locks, open files and descriptors.
     pub files: Files,
     /// How the process ended, if it has.
     pub ended: Option<End>,

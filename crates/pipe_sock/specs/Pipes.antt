@@ -1,10 +1,10 @@
 -- The bytes that wait in pipes, by inode number. A pipe has room for 65,536 of them. Up to PIPE_BUF, 4,096 by
 -- include/uapi/linux/limits.h, are written whole or not at all, as pipe(7) says.
-use Rattle.std.specs.Prelude.{ℕ, ◌-◌, ◌==◌, ◌&&◌, min, nat_le, nat_lt, not, Bool, if◌then◌else◌, List, [], ◌∷◌, ◌++◌, length, take, drop, Option, Some, None, unwrap_or, Result, Ok, Err}
-use Rattle.kernel_values.specs.Outcome.{◌>>◌, refused_if, settled}
+use Rattle.std.specs.Prelude.{ℕ, ◌-◌, ◌==◌, ◌&&◌, min, nat_le, nat_lt, not, Bool, if◌then◌else◌, List, [], ◌++◌, length, take, drop, Option, Some, None, unwrap_or, Result, Ok, Err}
+use Rattle.kernel_values.specs.Outcome.{◌>>=◌, ◌>>◌, refused_if, settled}
 use Rattle.kernel_values.specs.declared.errno.Errno.{Errno}
 use Rattle.kernel_values.specs.declared.errno.Errno.TheVariants.{BadAddress, BrokenPipe, TryAgain}
-use Rattle.pipe_sock.specs.Table.{at, changed}
+use Rattle.number_maps.specs.NumberMap.{at, changed}
 
 -- the bytes that wait in a pipe; where there is none, none wait
 abbrev pub waiting : List (ℕ × List ℕ) → ℕ → List ℕ
@@ -22,21 +22,20 @@ refilled pipes inode bytes = refilled_as pipes inode bytes (at pipes inode)
 abbrev pub read_count : List ℕ → ℕ → ℕ → ℕ
 read_count bytes wanted room = min (min wanted (length bytes)) room
 
--- a read: no bytes wanted gives none; from an empty pipe none without a writer, and else EAGAIN; EFAULT where bytes wait
--- and there is no room
+-- how many bytes a read gives, or what refuses it: none where none are wanted; from an empty pipe none without a writer, and
+-- else EAGAIN; EFAULT where bytes wait and there is no room
+unfoldable pub read_length : List (ℕ × List ℕ) → ℕ → ℕ → ℕ → Bool → Result ℕ Errno
+read_length pipes inode wanted room has_writer =
+    if wanted == 0 then Ok 0 else do
+      refused_if ((length (waiting pipes inode) == 0) && has_writer) TryAgain
+      refused_if (not (length (waiting pipes inode) == 0) && (room == 0)) BadAddress
+      Ok (read_count (waiting pipes inode) wanted room)
+
+-- a read: the first bytes that wait, which wait no more
 unfoldable pub read : List (ℕ × List ℕ) → ℕ → ℕ → ℕ → Bool → Result (List ℕ) Errno × List (ℕ × List ℕ)
 read pipes inode wanted room has_writer = settled pipes (do
-  if wanted == 0 then Ok ([], pipes) else do
-    refused_if ((length (waiting pipes inode) == 0) && has_writer) TryAgain
-    refused_if (not (length (waiting pipes inode) == 0) && (room == 0)) BadAddress
-    let n = read_count (waiting pipes inode) wanted room
-    Ok (take n (waiting pipes inode), refilled pipes inode (drop n (waiting pipes inode))))
-
--- a read gives at least one byte
-abbrev pub MovesBytes : Result (List ℕ) Errno → Type 0
-MovesBytes (Ok []) = ⊥
-MovesBytes (Ok (b ∷ bs)) = Unit {0}
-MovesBytes (Err e) = ⊥
+  n ← read_length pipes inode wanted room has_writer
+  Ok (take n (waiting pipes inode), refilled pipes inode (drop n (waiting pipes inode))))
 
 -- the bytes that a pipe has room for
 abbrev pub free_room : List ℕ → ℕ

@@ -1,15 +1,15 @@
 //! Pipes by inode number.
 
 ghost use Rattle.std.specs.Prelude.{◌≡◌, ℕ, List, [], ◌∷◌, ◌++◌, ◌+◌, ◌≤◌, length, take, drop, OnOk, MatchOption};
-ghost use Rattle.pipe_sock.specs.Table.{IsAscending, after, after_key, put, removed};
+ghost use Rattle.number_maps.specs.NumberMap.{IsAscending, after, after_key, put, removed};
 ghost use Rattle.pipe_sock.specs.Pipes.{refilled, waiting};
 
 use crate::pipe::Pipe;
 use kernel_values::OutOfMemory;
+use number_maps::entry_after;
 use std::alloc::Global;
 use std::collections::BTreeMap;
 use std::marker::Model;
-use std::ops::Bound;
 
 /// Pipes by inode number. A contract sees them by ascending number, each as the bytes that wait in it.
 #[derive(Debug, Drop)]
@@ -62,9 +62,9 @@ impl Pipes {
         }
     }
 
-    /// Moves the first bytes that wait, as many as `into` holds.
+    /// Moves the first bytes that wait, as many as `into` holds. It takes no memory.
     #[tactic(auto, unfolding(crate::specs::Pipes::refilled))]
-    pub(crate) fn take(&mut self, inode: u64, into: &mut [u8])
+    pub fn read(&mut self, inode: u64, into: &mut [u8])
         requires { length into.old ≤ length (waiting self.old inode) }
         ensures bytes { into.new ≡ take (length into.old) (waiting self.old inode) }
         ensures left { self.new ≡ refilled self.old inode (drop (length into.old) (waiting self.old inode)) }
@@ -87,39 +87,11 @@ impl Pipes {
         }
     }
 
-    /// The first pipe.
-    #[tactic(auto, using(crate::proofs::Ordered::after_front))]
-    fn first(&self) -> Option<(u64, &Pipe)>
-        ensures ascending { IsAscending self.now }
-        ensures entry { MatchOption result (self.now ≡ []) (λ e. self.now ≡ (e.0, e.1.now) ∷ after_key self.now e.0) }
-    {
-        match self.map.iter().next() {
-            Some((inode, pipe)) => Some((*inode, pipe)),
-            None => None,
-        }
-    }
-
-    /// The first pipe after an inode.
-    #[tactic(auto, using(crate::proofs::Ordered::after_between, crate::proofs::Ordered::between_is_after))]
-    fn first_after(&self, inode: u64) -> Option<(u64, &Pipe)>
-        ensures ascending { IsAscending self.now }
-        ensures entry { MatchOption result (after_key self.now inode ≡ []) (λ e. after_key self.now inode ≡ (e.0, e.1.now) ∷ after_key self.now e.0) }
-    {
-        let mut pipes = self.map.range((Bound::Excluded(inode), Bound::Unbounded));
-        match pipes.next() {
-            Some((inode, pipe)) => Some((*inode, pipe)),
-            None => None,
-        }
-    }
-
     /// The pipe after the last inode told, by ascending number, and the first where none was told.
     pub fn after(&self, inode: Option<u64>) -> Option<(u64, &Pipe)>
         ensures ascending { IsAscending self.now }
         ensures entry { MatchOption result (after self.now inode ≡ []) (λ e. after self.now inode ≡ (e.0, e.1.now) ∷ after_key self.now e.0) }
     {
-        match inode {
-            Some(inode) => self.first_after(inode),
-            None => self.first(),
-        }
+        entry_after(&self.map, inode)
     }
 }

@@ -56,16 +56,26 @@ impl Desk {
         told(self.pipes.write(INODE, wanted, &[], has_reader))
     }
 
+    // The bytes that a read gives.
+    fn read(&mut self, wanted: u64, room: u64, has_writer: bool) -> Answer<Vec<u8>> {
+        let count = self.pipes.read_length(INODE, wanted, room, has_writer)?;
+        let Ok(mut bytes) = Vec::from_elem(self.alloc, 0, count as usize) else {
+            return Err(KernelFault::OutOfMemory);
+        };
+        self.pipes.read(INODE, &mut bytes);
+        Ok(bytes)
+    }
+
     // How many bytes a read gives.
     fn reads(&mut self, wanted: u64, room: u64, has_writer: bool) -> i64 {
-        match self.pipes.read(self.alloc, INODE, wanted, room, has_writer) {
+        match self.read(wanted, room, has_writer) {
             Ok(bytes) => bytes.len() as i64,
             Err(fault) => told_fault(fault),
         }
     }
 
     fn gives(&mut self, wanted: u64, expected: &[u8]) -> bool {
-        match self.pipes.read(self.alloc, INODE, wanted, wanted, true) {
+        match self.read(wanted, wanted, true) {
             Ok(bytes) => bytes.as_slice() == expected,
             Err(_) => false,
         }

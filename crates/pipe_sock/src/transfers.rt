@@ -1,62 +1,44 @@
-//! Reads and writes of pipes.
+//! How many bytes reads give, and writes of pipes.
 
-ghost use Rattle.std.specs.Prelude.{◌≡◌, ◌-◌, ◌<◌, length, IfOk, OnErr};
-ghost use Rattle.kernel_values.specs.Outcome.{Gives, GivesAlways, OnOutOfMemory};
-ghost use Rattle.pipe_sock.specs.Pipes.{MovesBytes, fits, free_room, read, waiting, write};
+ghost use Rattle.std.specs.Prelude.{◌≡◌, ◌≤◌, length, IfOk};
+ghost use Rattle.kernel_values.specs.Outcome.{GivesAlways, Tells};
+ghost use Rattle.pipe_sock.specs.Pipes.{fits, free_room, read_length, waiting, write};
 
 use crate::pipe::PIPE_SIZE;
 use crate::pipes::Pipes;
-use kernel_values::{Answer, Errno, KernelFault, OutOfMemory};
-use std::alloc::Global;
+use kernel_values::{Answer, Errno, KernelFault};
 
 /// PIPE_BUF, by `include/uapi/linux/limits.h`: so many bytes are written whole or not at all.
 const PIPE_BUF: u64 = 4096;
 
-/// Zeros to read bytes into. Only bytes take memory.
-fn zeros(alloc: Global, count: u64) -> Result<Vec<u8>, OutOfMemory>
-    ensures count { IfOk result (λ v. length v.items ≡ count) }
-    ensures wanting { OnErr result (0 < count) }
-{
-    if count == 0 {
-        return Ok(Vec::new(alloc));
-    }
-    match Vec::from_elem(alloc, 0, count as usize) {
-        Ok(bytes) => Ok(bytes),
-        Err(_) => Err(OutOfMemory),
-    }
-}
-
 impl Pipes {
-    /// Reads a pipe: gives bytes, at most `wanted` and at most as many as there is `room` for in memory.
+    /// How many bytes a read gives, at most `wanted` and at most as many as there is `room` for in memory.
     ///
     /// From an empty pipe none without a writer, and EAGAIN with one; EFAULT where bytes wait and there is no room.
-    /// Memory may be wanting only where bytes are read, and then they still wait.
-    #[tactic(auto, using(crate::proofs::Moves::some_moved), unfolding(crate::specs::Pipes::read))]
-    pub fn read(
-        &mut self,
-        alloc: Global,
+    #[tactic(auto, unfolding(crate::specs::Pipes::read_length))]
+    pub fn read_length(
+        &self,
         inode: u64,
         wanted: u64,
         room: u64,
         has_writer: bool,
-    ) -> Answer<Vec<u8>>
-        ensures gives { Gives (λ v. v.items) result self.new (read self.old inode wanted room has_writer) }
-        ensures moves { OnOutOfMemory result (MovesBytes (read self.old inode wanted room has_writer).0) }
-        ensures kept { OnOutOfMemory result (self.new ≡ self.old) }
+    ) -> Result<u64, Errno>
+        ensures told { Tells result (read_length self.now inode wanted room has_writer) }
+        ensures most { IfOk result (λ n. n ≤ wanted) }
+        ensures space { IfOk result (λ n. n ≤ room) }
+        ensures waiting { IfOk result (λ n. n ≤ length (waiting self.now inode)) }
     {
         if wanted == 0 {
-            return Ok(Vec::new(alloc));
+            return Ok(0);
         }
         let waiting = self.waiting(inode);
         if waiting == 0 && has_writer {
-            return Err(KernelFault::Errno(Errno::TryAgain));
+            return Err(Errno::TryAgain);
         }
         if waiting != 0 && room == 0 {
-            return Err(KernelFault::Errno(Errno::BadAddress));
+            return Err(Errno::BadAddress);
         }
-        let mut bytes = zeros(alloc, wanted.min(waiting).min(room))?;
-        self.take(inode, &mut bytes);
-        Ok(bytes)
+        Ok(wanted.min(waiting).min(room))
     }
 
     /// How many bytes a pipe has room for.
@@ -85,7 +67,8 @@ impl Pipes {
     /// written and memory gave none.
     #[tactic(auto, unfolding(crate::specs::Pipes::write))]
     pub fn write(&mut self, inode: u64, wanted: u64, piece: &[u8], has_reader: bool) -> Answer<u64>
-        ensures { GivesAlways (λ n. n) result self.new (write self.old inode wanted piece.now has_reader) }
+        ensures gives { GivesAlways (λ n. n) result self.new (write self.old inode wanted piece.now has_reader) }
+        ensures most { IfOk result (λ n. n ≤ wanted) }
     {
         if wanted == 0 {
             return Ok(0);

@@ -1,6 +1,8 @@
 -- A process's own locks on one file: maximal ranges of one kind, ascending.
-use Rattle.std.specs.Prelude.{◌≡◌, ℕ, ◌+◌, ◌-◌, min, max, ◌==◌, ◌&&◌, not, nat_le, nat_lt, Bool, true, IsTrue, if◌then◌else◌, List, [], ◌∷◌, ◌++◌, Option, Some, None}
+use Rattle.std.specs.Prelude.{◌≡◌, ℕ, ◌+◌, ◌-◌, min, max, ◌==◌, ◌&&◌, not, nat_le, nat_lt, Bool, true, false, IsTrue, if◌then◌else◌, List, [], ◌∷◌, ◌++◌, Option, Some, None}
 use Rattle.record_locks.specs.declared.state.ByteRange.{ByteRange}
+use Rattle.record_locks.specs.declared.state.LockKind.{LockKind}
+use Rattle.record_locks.specs.declared.state.LockKind.TheVariants.{Read, Write}
 use Rattle.record_locks.specs.declared.state.OwnLock.{OwnLock}
 
 -- the part of a lock before a byte
@@ -16,9 +18,15 @@ unfoldable pub unlocked : List OwnLock → ByteRange → List OwnLock
 unlocked [] r = []
 unlocked (l ∷ ls) r = part_before l r.first ++ (part_behind l r.last ++ unlocked ls r)
 
+abbrev pub is_same_kind : LockKind → LockKind → Bool
+is_same_kind Read Read = true
+is_same_kind Read Write = false
+is_same_kind Write Read = false
+is_same_kind Write Write = true
+
 -- a lock of the same kind begins right behind another
 abbrev pub is_followed_by : OwnLock → OwnLock → Bool
-is_followed_by l m = (if l.write then m.write else not m.write) && (l.last + 1 == m.first)
+is_followed_by l m = is_same_kind l.kind m.kind && (l.last + 1 == m.first)
 
 -- a lock among ascending others that have none of its bytes, in one with those of its kind that it touches
 unfoldable pub joined : OwnLock → List OwnLock → List OwnLock
@@ -29,17 +37,17 @@ joined new (l ∷ ls) =
     else (if nat_lt l.first new.first then l ∷ joined new ls else new ∷ l ∷ ls))
 
 -- the locks where some bytes have another kind, or none
-unfoldable pub relocked : List OwnLock → Option Bool → ByteRange → List OwnLock
+unfoldable pub relocked : List OwnLock → Option LockKind → ByteRange → List OwnLock
 relocked ls None r = unlocked ls r
-relocked ls (Some write) r = joined (record { write = write; first = r.first; last = r.last }) (unlocked ls r)
+relocked ls (Some kind) r = joined (record { kind = kind; first = r.first; last = r.last }) (unlocked ls r)
 
 -- the kind of the lock on a byte, if there is one
-unfoldable pub kind_at : List OwnLock → ℕ → Option Bool
+unfoldable pub kind_at : List OwnLock → ℕ → Option LockKind
 kind_at [] byte = None
-kind_at (l ∷ ls) byte = if nat_le l.first byte && nat_le byte l.last then Some l.write else kind_at ls byte
+kind_at (l ∷ ls) byte = if nat_le l.first byte && nat_le byte l.last then Some l.kind else kind_at ls byte
 
 -- bytes of a range have the kind wanted, and all others theirs
-abbrev pub replaced : Option Bool → ByteRange → ℕ → Option Bool → Option Bool
+abbrev pub replaced : Option LockKind → ByteRange → ℕ → Option LockKind → Option LockKind
 replaced wanted r byte old = if nat_le r.first byte && nat_le byte r.last then wanted else old
 
 -- ascending ranges of at least one byte, of which no two of one kind touch

@@ -1,18 +1,20 @@
 -- Which bytes a lock is on, by include/uapi/asm-generic/fcntl.h: F_RDLCK 0, F_WRLCK 1, F_UNLCK 2.
-use Rattle.std.specs.Prelude.{ℕ, zero, suc, ℤ, pos, negsuc, ◌+ℤ◌, ◌-◌, ◌^◌, nat_abs, int_lt, ◌||◌, Bool, true, false, Option, Some, None, Result, Ok, Err}
+use Rattle.std.specs.Prelude.{ℕ, zero, suc, ℤ, pos, negsuc, ◌+ℤ◌, ◌-◌, ◌^◌, nat_abs, int_lt, ◌||◌, Option, Some, None, Result, Ok, Err}
 use Rattle.kernel_values.specs.Outcome.{◌>>◌, refused_if}
 use Rattle.kernel_values.specs.declared.errno.Errno.{Errno}
 use Rattle.kernel_values.specs.declared.errno.Errno.TheVariants.{InvalidArgument, Overflow}
 use Rattle.record_locks.specs.declared.state.ByteRange.{ByteRange}
+use Rattle.record_locks.specs.declared.state.LockKind.{LockKind}
+use Rattle.record_locks.specs.declared.state.LockKind.TheVariants.{Read, Write}
 
 -- the greatest place of a byte
 abbrev pub last_byte : ℕ
 last_byte = 2 ^ 63 - 1
 
--- whether a lock of writers is wanted, or one of readers; none unlocks
-unfoldable pub lock_kind : ℤ → Result (Option Bool) Errno
-lock_kind (pos zero) = Ok (Some false)
-lock_kind (pos (suc zero)) = Ok (Some true)
+-- the kind of lock that is wanted; none unlocks
+unfoldable pub lock_kind : ℤ → Result (Option LockKind) Errno
+lock_kind (pos zero) = Ok (Some Read)
+lock_kind (pos (suc zero)) = Ok (Some Write)
 lock_kind (pos (suc (suc zero))) = Ok None
 lock_kind (pos (suc (suc (suc n)))) = Err InvalidArgument
 lock_kind (negsuc n) = Err InvalidArgument

@@ -10,7 +10,7 @@ mod state;
 pub use foreign::obstacle;
 pub use own::LockList;
 pub use ranges::{byte_range, lock_kind};
-pub use state::{ByteRange, ForeignLock, OwnLock};
+pub use state::{ByteRange, ForeignLock, LockKind, OwnLock};
 
 #[cfg(test)]
 mod tests;

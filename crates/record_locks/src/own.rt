@@ -3,7 +3,7 @@
 ghost use Rattle.std.specs.Prelude.{◌≡◌, ◌≤◌, ℕ, List, [], ◌∷◌, ◌++◌, length, IfOk, OnOk, OnErr};
 ghost use Rattle.record_locks.specs.Own.{IsMaximal, IsOnly, is_followed_by, joined, kind_at, part_before, part_behind, relocked, replaced, unlocked};
 
-use crate::state::{ByteRange, OwnLock};
+use crate::state::{ByteRange, LockKind, OwnLock};
 use kernel_values::OutOfMemory;
 use std::alloc::Global;
 use std::marker::Model;
@@ -67,7 +67,7 @@ fn unlocked(alloc: Global, locks: &[OwnLock], range: ByteRange) -> Result<Vec<Ow
 fn is_followed_by(lock: OwnLock, next: OwnLock) -> bool
     ensures { result ≡ is_followed_by lock next }
 {
-    lock.write == next.write && lock.last < next.first && next.first - lock.last == 1
+    lock.kind == next.kind && lock.last < next.first && next.first - lock.last == 1
 }
 
 /// A lock among ascending others that have none of its bytes, in one with those of its kind that it touches.
@@ -102,7 +102,7 @@ fn joined(alloc: Global, lock: OwnLock, locks: &[OwnLock]) -> Result<Vec<OwnLock
 fn relocked(
     alloc: Global,
     locks: &[OwnLock],
-    wanted: Option<bool>,
+    wanted: Option<LockKind>,
     range: ByteRange,
 ) -> Result<Vec<OwnLock>, OutOfMemory>
     ensures { IfOk result (λ out. out.items ≡ relocked locks.now wanted range) }
@@ -110,9 +110,9 @@ fn relocked(
     let rest = unlocked(alloc, locks, range)?;
     match wanted {
         None => Ok(rest),
-        Some(write) => {
+        Some(kind) => {
             let lock = OwnLock {
-                write,
+                kind,
                 first: range.first,
                 last: range.last,
             };
@@ -144,7 +144,7 @@ impl LockList {
     pub fn set(
         &mut self,
         alloc: Global,
-        wanted: Option<bool>,
+        wanted: Option<LockKind>,
         range: ByteRange,
     ) -> Result<(), OutOfMemory>
         requires { range.first ≤ range.last }

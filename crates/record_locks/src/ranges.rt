@@ -4,22 +4,22 @@ ghost use Rattle.std.specs.Prelude.{◌≡◌, ◌≤◌, ◌<◌, ◌^◌, pos,
 ghost use Rattle.kernel_values.specs.Outcome.{Tells};
 ghost use Rattle.record_locks.specs.Ranges.{byte_range, bytes_between, last_byte, lock_kind, places_of};
 
-use crate::state::ByteRange;
+use crate::state::{ByteRange, LockKind};
 use kernel_values::Errno;
 
 /// The greatest place of a byte.
 pub(crate) const LAST_BYTE: u64 = 0x7fff_ffff_ffff_ffff;
 
-/// Whether a lock of writers (F_WRLCK, 1) is wanted, or one of readers (F_RDLCK, 0); none unlocks (F_UNLCK, 2).
+/// The kind of a lock that is wanted, of readers (F_RDLCK, 0) or of writers (F_WRLCK, 1); none unlocks (F_UNLCK, 2).
 ///
 /// EINVAL for another kind.
 #[tactic(auto, unfolding(crate::specs::Ranges::lock_kind))]
-pub fn lock_kind(kind: i16) -> Result<Option<bool>, Errno>
+pub fn lock_kind(kind: i16) -> Result<Option<LockKind>, Errno>
     ensures { Tells result (lock_kind kind) }
 {
     match kind {
-        0 => Ok(Some(false)),
-        1 => Ok(Some(true)),
+        0 => Ok(Some(LockKind::Read)),
+        1 => Ok(Some(LockKind::Write)),
         2 => Ok(None),
         _ => Err(Errno::InvalidArgument),
     }

@@ -9,11 +9,19 @@ pub struct ByteRange {
     pub last: u64,
 }
 
+/// What a lock keeps others from.
+#[derive(Clone, Copy, Debug, PartialEq, Eq)]
+pub enum LockKind {
+    /// One of readers: no other process may write.
+    Read,
+    /// One of writers: no other process may read or write.
+    Write,
+}
+
 /// A lock that the process has on bytes of a file.
 #[derive(Clone, Copy, Debug, PartialEq, Eq)]
 pub struct OwnLock {
-    /// Whether it is one of writers, or one of readers.
-    pub write: bool,
+    pub kind: LockKind,
     pub first: u64,
     pub last: u64,
 }
@@ -23,8 +31,7 @@ pub struct OwnLock {
 pub struct ForeignLock {
     /// The file that it is on.
     pub inode: u64,
-    /// Whether it is one of writers, or one of readers.
-    pub write: bool,
+    pub kind: LockKind,
     pub first: u64,
     pub last: u64,
     /// What F_GETLK tells of it.

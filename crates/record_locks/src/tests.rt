@@ -3,14 +3,14 @@ use kernel_values::Errno;
 use std::alloc::Global;
 use std::test::Fail;
 
-const READ: Option<bool> = Some(false);
+const READ: Option<LockKind> = Some(LockKind::Read);
 
-const WRITE: Option<bool> = Some(true);
+const WRITE: Option<LockKind> = Some(LockKind::Write);
 
 fn set(
     list: &mut LockList,
     alloc: Global,
-    wanted: Option<bool>,
+    wanted: Option<LockKind>,
     first: u64,
     last: u64,
 ) -> Option<()> {
@@ -23,8 +23,8 @@ fn set(
 // The locks after a first one and another on a list with none.
 fn after_two(
     alloc: Global,
-    first: (Option<bool>, u64, u64),
-    second: (Option<bool>, u64, u64),
+    first: (Option<LockKind>, u64, u64),
+    second: (Option<LockKind>, u64, u64),
 ) -> Option<LockList> {
     let mut list = LockList::new(alloc);
     set(&mut list, alloc, first.0, first.1, first.2)?;
@@ -44,9 +44,9 @@ fn count(list: &LockList) -> usize {
     list.as_slice().len()
 }
 
-fn has(list: &LockList, at: usize, write: bool, first: u64, last: u64) -> bool {
+fn has(list: &LockList, at: usize, kind: Option<LockKind>, first: u64, last: u64) -> bool {
     match list.as_slice().get(at) {
-        Some(lock) => lock.write == write && lock.first == first && lock.last == last,
+        Some(lock) => Some(lock.kind) == kind && lock.first == first && lock.last == last,
         None => false,
     }
 }
@@ -55,9 +55,9 @@ fn has(list: &LockList, at: usize, write: bool, first: u64, last: u64) -> bool {
 fn another_kind_in_the_middle_makes_three(rt: HostRuntime) -> Result<(), Fail> {
     let list = after_two(rt.alloc(), (READ, 10, 29), (WRITE, 15, 19)).ok_or("memory")?;
     assert_eq!(rt; count(&list), 3);
-    assert!(rt; has(&list, 0, false, 10, 14));
-    assert!(rt; has(&list, 1, true, 15, 19));
-    assert!(rt; has(&list, 2, false, 20, 29));
+    assert!(rt; has(&list, 0, READ, 10, 14));
+    assert!(rt; has(&list, 1, WRITE, 15, 19));
+    assert!(rt; has(&list, 2, READ, 20, 29));
     Ok(())
 }
 
@@ -65,10 +65,10 @@ fn another_kind_in_the_middle_makes_three(rt: HostRuntime) -> Result<(), Fail> {
 fn ranges_of_one_kind_that_touch_are_one(rt: HostRuntime) -> Result<(), Fail> {
     let list = after_two(rt.alloc(), (READ, 10, 19), (READ, 0, 9)).ok_or("memory")?;
     assert_eq!(rt; count(&list), 1);
-    assert!(rt; has(&list, 0, false, 0, 19));
+    assert!(rt; has(&list, 0, READ, 0, 19));
     let list = after_two(rt.alloc(), (READ, 10, 19), (WRITE, 20, 29)).ok_or("memory")?;
     assert_eq!(rt; count(&list), 2);
-    assert!(rt; has(&list, 1, true, 20, 29));
+    assert!(rt; has(&list, 1, WRITE, 20, 29));
     Ok(())
 }
 
@@ -81,8 +81,8 @@ fn unlocking_the_middle_leaves_two(rt: HostRuntime) -> Result<(), Fail> {
     )
     .ok_or("memory")?;
     assert_eq!(rt; count(&list), 2);
-    assert!(rt; has(&list, 0, true, 0, 99));
-    assert!(rt; has(&list, 1, true, 200, 0x7fff_ffff_ffff_ffff));
+    assert!(rt; has(&list, 0, WRITE, 0, 99));
+    assert!(rt; has(&list, 1, WRITE, 200, 0x7fff_ffff_ffff_ffff));
     Ok(())
 }
 
@@ -90,9 +90,9 @@ fn unlocking_the_middle_leaves_two(rt: HostRuntime) -> Result<(), Fail> {
 fn a_lock_over_several_replaces_them(rt: HostRuntime) -> Result<(), Fail> {
     let list = over_several(rt.alloc()).ok_or("memory")?;
     assert_eq!(rt; count(&list), 3);
-    assert!(rt; has(&list, 0, false, 0, 4));
-    assert!(rt; has(&list, 1, true, 5, 44));
-    assert!(rt; has(&list, 2, false, 45, 49));
+    assert!(rt; has(&list, 0, READ, 0, 4));
+    assert!(rt; has(&list, 1, WRITE, 5, 44));
+    assert!(rt; has(&list, 2, READ, 45, 49));
     Ok(())
 }
 
@@ -137,16 +137,25 @@ fn kinds_are_those_of_the_header(rt: HostRuntime) -> Result<(), Fail> {
 
 const END: u64 = 1 << 63;
 
-fn foreign(write: bool, start: u64, length: u64, pid: u32) -> Result<ForeignLock, Errno> {
-    ForeignLock::new(7, write, start, length, pid)
+fn foreign(kind: LockKind, start: u64, length: u64, pid: u32) -> Result<ForeignLock, Errno> {
+    ForeignLock::new(7, kind, start, length, pid)
 }
 
 fn two_locks() -> Result<[ForeignLock; 2], Errno> {
-    Ok([foreign(false, 10, 10, 41)?, foreign(true, 15, 0, 42)?])
+    Ok([
+        foreign(LockKind::Read, 10, 10, 41)?,
+        foreign(LockKind::Write, 15, 0, 42)?,
+    ])
 }
 
 // The process of the lock that is found, or 0.
-fn holder(locks: &[ForeignLock], inode: u64, wanted: Option<bool>, first: u64, last: u64) -> i32 {
+fn holder(
+    locks: &[ForeignLock],
+    inode: u64,
+    wanted: Option<LockKind>,
+    first: u64,
+    last: u64,
+) -> i32 {
     match obstacle(locks, inode, wanted, ByteRange { first, last }) {
         Some(lock) => lock.told.pid,
         None => 0,
@@ -179,13 +188,13 @@ fn told_length(lock: Result<ForeignLock, Errno>) -> i64 {
 
 #[test]
 fn a_lock_with_no_end_is_told_with_length_0(rt: HostRuntime) -> Result<(), Fail> {
-    assert_eq!(rt; told_length(foreign(false, 1, END - 1, 41)), 0);
+    assert_eq!(rt; told_length(foreign(LockKind::Read, 1, END - 1, 41)), 0);
     assert_eq!(rt;
-        told_length(foreign(false, 1, END - 2, 41)),
+        told_length(foreign(LockKind::Read, 1, END - 2, 41)),
         0x7fff_ffff_ffff_fffe
     );
-    assert_eq!(rt; told_length(foreign(false, 2, END - 1, 41)), -75);
-    let past = foreign(true, END, 0, 41).ok().ok_or("lock")?;
+    assert_eq!(rt; told_length(foreign(LockKind::Read, 2, END - 1, 41)), -75);
+    let past = foreign(LockKind::Write, END, 0, 41).ok().ok_or("lock")?;
     assert_eq!(rt; holder_of_any(past), 0);
     Ok(())
 }

@@ -1,5 +1,5 @@
 -- The text of a report. Registers and addresses have 8 digits, byte fields two for each byte; other numbers have no leading zeros.
-use Rattle.std.specs.Prelude.{ℕ, ◌+◌, ◌==◌, ◌&&◌, Bool, if◌then◌else◌, List, [], ◌∷◌, ◌++◌, codes, false, Option, Some, None}
+use Rattle.std.specs.Prelude.{ℕ, List, [], ◌∷◌, ◌++◌, codes, false, Option, Some, None}
 use Rattle.kernel_values.specs.declared.process_end.End.{End}
 use Rattle.kernel_values.specs.declared.process_end.End.TheVariants as end
 use Rattle.std.specs.Int.{w32, to_be_bytes}

@@ -1,13 +1,11 @@
 //! How a command ends before its script does.
 
-ghost use Rattle.std.specs.Prelude.{◌≡◌, IfOk};
-ghost use Rattle.replay_command.specs.Run.{cause_text};
 ghost use Rattle.replay_command.specs.Wrote.{EndsAt};
 
 use crate::report::put_bad;
 use crate::status::Status;
 use kernel_values::OutOfMemory;
-use script_reader::{LineCause, ScriptFault};
+use script_reader::ScriptFault;
 use std::alloc::Global;
 
 /// Why a command comes to no end of its own.
@@ -30,28 +28,13 @@ impl From<OutOfMemory> for Stop {
     }
 }
 
-fn cause_word(cause: LineCause) -> &'static [u8]
-    ensures { result.now ≡ cause_text cause }
-{
-    match cause {
-        LineCause::Long => b"long",
-        LineCause::Unended => b"unended",
-        LineCause::Header => b"header",
-        LineCause::Word => b"word",
-        LineCause::Count => b"count",
-        LineCause::Field => b"field",
-        LineCause::Order => b"order",
-        LineCause::Image => b"image",
-    }
-}
-
 /// Ends the text at a fault of the script.
 pub fn end_at(alloc: Global, out: &mut Vec<u8>, fault: ScriptFault) -> Result<Status, Stop>
     ensures { EndsAt fault result out.old.items out.new.items }
 {
     match fault {
         ScriptFault::BadLine { line, cause } => {
-            put_bad(alloc, out, line, cause_word(cause))?;
+            put_bad(alloc, out, line, cause.word().as_bytes())?;
             Ok(Status::BadLine)
         }
         ScriptFault::TooLarge => Ok(Status::TooLarge),

@@ -306,3 +306,14 @@ fn usage_and_privilege_are_kept(rt: HostRuntime) -> Result<(), Fail> {
         b"call 1 getrusage 00000000 00000000 00001000 00000000 00000000 00000000 00000000 00000000 00000000 00000000\nmem 00001000 01\nmem 00001044 12\ncall 2 clock_settime 00000000 00000000 00001100 00000000 00000000 00000000 00000000 00000000 00000000 00000000\nstate\nclock 12a05f200 0\npeak 0\nnode 2 d 0 41ed 0 0 0.0 0.0 0.0\nend\n";
     runs(&rt, rt.alloc(), script, report)
 }
+
+/// A directory, a file in it, bytes of the file and a lock of another process. That lock refuses one of the process's own,
+/// and lets one behind it be.
+#[test]
+fn files_of_the_image_are_there(rt: HostRuntime) -> Result<(), Fail> {
+    let script =
+        b"abi ia32 1\npage 1000 rw 2f642f6600\npage 2000 rw -\ndir /d 5\nfile /d/f 7 4\ndata /d/f 1 6263\nlock /d/f w 0 2 9\ncall 5 1000 2 0 0 0 0 0 0 0\ncall 37 0 6 2000 0 0 0 0 0 0\npoke 2000 00000000020000000200000000000000\ncall 37 0 6 2000 0 0 0 0 0 0\n";
+    let report =
+        b"call 1 open 00000000 00001000 00000002 00000000 00000000 00000000 00000000 00000000 00000000 00000000\ncall 2 fcntl fffffff5 00000000 00000006 00002000 00000000 00000000 00000000 00000000 00000000 00000000\ncall 3 fcntl 00000000 00000000 00000006 00002000 00000000 00000000 00000000 00000000 00000000 00000000\nstate\nclock 0 0\npeak 0\nnode 2 d 0 41ed 0 0 0.0 0.0 0.0\nname 2 3 5 64\nnode 5 d 0 41ed 0 0 0.0 0.0 0.0\nname 5 3 7 66\nnode 7 f 4 81a4 0 0 0.0 0.0 0.0\nbytes 7 1 6263\nlock 7 r 2 3\nfd 0 1 0\nopen 1 file 2 0 7\nend\n";
+    runs(&rt, rt.alloc(), script, report)
+}

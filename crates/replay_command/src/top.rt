@@ -70,9 +70,9 @@ pub fn replay<S: Source, O: Sink>(
     ensures read_fault { result ≡ Status.ReadFault → Rose (S.faults source.old) (S.faults source.new) }
     ensures write_fault { result ≡ Status.WriteFault → Rose (O.faults sink.old) (O.faults sink.new) }
 
-    // Whatever the status, the sink took a front of what the command writes for the bytes.
-    ensures prefix { (bytes : List ℕ) → S.left source.old ≡ Some bytes →
-        ((n : ℕ) × (O.taken sink.new ≡ appended (O.taken sink.old) (take n (answer_to words.now bytes).text))) }
+    // Whatever the status, the sink took a front of what the command writes for the bytes: for some where the source tells none.
+    ensures prefix { (bytes : List ℕ) × IsInput (S.left source.old) bytes
+        × ((n : ℕ) × (O.taken sink.new ≡ appended (O.taken sink.old) (take n (answer_to words.now bytes).text))) }
 
     // Without a fault a command comes to its own end, or memory is wanting.
     ensures complete { is_some (command_of words.now) ≡ true → (Rose (S.faults source.old) (S.faults source.new) → ⊥)

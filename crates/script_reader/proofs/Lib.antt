@@ -5,3 +5,4 @@ pub mod Covered
 pub mod LineSteps
 pub mod ScriptLaws
 pub mod ReadSteps
+pub mod GivenSteps

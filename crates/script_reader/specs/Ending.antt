@@ -1,5 +1,5 @@
 -- A whole script.
-use Rattle.std.specs.Prelude.{ℕ, List, [], ◌∷◌}
+use Rattle.std.specs.Prelude.{ℕ, List, [], ◌∷◌, ◌++◌}
 use Rattle.script_reader.specs.declared.fault.LineCause.{LineCause}
 use Rattle.script_reader.specs.Grammar.{Line}
 
@@ -21,3 +21,7 @@ ends ending = record { records = []; ending = ending }
 
 abbrev pub with_record : Line → ScriptText → ScriptText
 with_record line text = record { records = line ∷ text.records; ending = text.ending }
+
+-- records in front of a script
+abbrev pub with_records : List Line → ScriptText → ScriptText
+with_records lines text = record { records = lines ++ text.records; ending = text.ending }

@@ -5,3 +5,4 @@ pub mod Ending
 pub mod Script
 pub mod Ahead
 pub mod Reads
+pub mod Causes

@@ -1,5 +1,5 @@
 -- A reader of a script, and what a call for the next record comes to.
-use Rattle.std.specs.Prelude.{◌≡◌, ◌≤◌, ⊤, ℕ, ◌+◌, ◌^◌, Bool, true, false, List, [], ◌++◌, length, Option, Some, None, Result, Ok, Err, OnOk, is_ok}
+use Rattle.std.specs.Prelude.{◌≡◌, ◌≤◌, ⊤, ℕ, ◌+◌, ◌^◌, Bool, true, false, List, [], ◌∷◌, ◌++◌, length, Option, Some, None, Result, Ok, Err, OnOk, is_ok}
 use Rattle.io_edge.specs.Told.{Rose, IsAtEnd}
 use Rattle.script_reader.specs.declared.fault.LineCause.{LineCause}
 use Rattle.script_reader.specs.declared.fault.ScriptFault.{ScriptFault}
@@ -8,11 +8,11 @@ use Rattle.script_reader.specs.declared.record.Record.{Record}
 use Rattle.script_reader.specs.declared.seen.Seen.{Seen}
 use Rattle.script_reader.specs.declared.ahead.Ahead.{Ahead}
 use Rattle.script_reader.specs.Ahead.{bytes_of}
-use Rattle.script_reader.specs.Ending.{Whole, ScriptText, ends, with_record}
+use Rattle.script_reader.specs.Ending.{Ending, Whole, ScriptText, ends, with_record, with_records}
 use Rattle.script_reader.specs.Ending as endings
-use Rattle.script_reader.specs.Grammar.{line_of, IsInRange}
+use Rattle.script_reader.specs.Grammar.{Line, line_of, IsInRange}
 use Rattle.script_reader.specs.Seen.{new_seen}
-use Rattle.script_reader.specs.Script.{Next, Given, BadLine, TooLarge, AtEnd, next_from, ending_at, script_from}
+use Rattle.script_reader.specs.Script.{Next, Given, BadLine, TooLarge, AtEnd, next_from, ending_at, script_of, script_from}
 
 pub record ScriptState : Type 0 where
   -- what has been seen of the script
@@ -102,3 +102,21 @@ IsEndOf seen line (Err (faults.BadLine number cause)) = ending_at seen line ≡ 
 IsEndOf seen line (Err faults.TooLarge) = ⊥
 IsEndOf seen line (Err faults.ReadFault) = ⊥
 IsEndOf seen line (Err faults.OutOfMemory) = ⊥
+
+-- The calls so far gave these records: the bytes that have gone by are the front of a script that gives them, whatever
+-- follows.
+abbrev pub HasGiven : ScriptState → List Line → Type 0
+HasGiven s lines = (bytes : List ℕ) × (length bytes ≡ s.count) × ((more : List ℕ) → script_of (bytes ++ more) ≡ with_records lines (script_from s.seen [] s.count more))
+
+-- these are all the records of some bytes, at most one more than a script has, and this is their ending
+abbrev pub IsScript : List Line → Ending → Type 0
+IsScript lines ending = (bytes : List ℕ) × (length bytes ≤ 2 ^ 28 + 1) × (script_of bytes ≡ record { records = lines; ending = ending })
+
+-- an answer behind the records that the calls before it gave
+abbrev pub GivesBehind : List Line → Result (Option Record) ScriptFault → ScriptState → Type 0
+GivesBehind lines (Ok (Some r)) after = HasGiven after (lines ++ line_of r ∷ [])
+GivesBehind lines (Ok None) after = IsScript lines Whole × HasGiven after lines
+GivesBehind lines (Err (faults.BadLine line cause)) after = IsScript lines (endings.BadLine line cause)
+GivesBehind lines (Err faults.TooLarge) after = IsScript lines endings.TooLarge
+GivesBehind lines (Err faults.ReadFault) after = ⊤
+GivesBehind lines (Err faults.OutOfMemory) after = ⊤

@@ -1,5 +1,9 @@
 //! Why reading a script ended.
 
+ghost use Rattle.std.specs.Prelude.{◌≡◌, Some};
+ghost use Rattle.script_reader.specs.Causes.{cause_text};
+
+use std::fmt;
 use thiserror::Error;
 
 /// Why a line is bad: the first of these that holds.
@@ -25,11 +29,37 @@ pub enum LineCause {
     Image,
 }
 
+impl LineCause {
+    /// The word that a report has for it.
+    pub fn word(&self) -> &'static str
+        ensures { result.now ≡ cause_text self.now }
+    {
+        match self {
+            LineCause::Long => "long",
+            LineCause::Unended => "unended",
+            LineCause::Header => "header",
+            LineCause::Word => "word",
+            LineCause::Count => "count",
+            LineCause::Field => "field",
+            LineCause::Order => "order",
+            LineCause::Image => "image",
+        }
+    }
+}
+
+impl fmt::Display for LineCause {
+    ghost output = { λ cause. Some (cause_text cause) };
+
+    fn fmt<W: fmt::Write>(&self, f: &mut fmt::Formatter<W>) -> fmt::Result {
+        f.write_str(self.word())
+    }
+}
+
 /// Why a script gives no further record.
 #[derive(Clone, Copy, Debug, PartialEq, Eq, Error)]
 pub enum ScriptFault {
     /// The first bad line, counted from 1.
-    #[error("line {line} is bad: {cause:?}")]
+    #[error("line {line} is bad: {cause}")]
     BadLine { line: u64, cause: LineCause },
     /// A read of the source failed.
     #[error("a read failed")]

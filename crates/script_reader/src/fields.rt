@@ -78,9 +78,7 @@ pub fn number_in(field: &[u8]) -> Option<u64>
 pub fn word_in(field: &[u8]) -> Option<u32>
     ensures { result ≡ word field.now }
 {
-    let Some(n) = number_in(field) else {
-        return None;
-    };
+    let n = number_in(field)?;
     u32::try_from(n).ok()
 }
 
@@ -89,9 +87,7 @@ pub fn clock_in(field: &[u8]) -> Option<u64>
     ensures is { result ≡ clock field.now }
     ensures below { IfSome result (λ n. n < 2 ^ 62) }
 {
-    let Some(n) = number_in(field) else {
-        return None;
-    };
+    let n = number_in(field)?;
     if n < 1 << 62 { Some(n) } else { None }
 }
 
@@ -99,9 +95,7 @@ pub fn clock_in(field: &[u8]) -> Option<u64>
 pub fn count_in(field: &[u8]) -> Option<i64>
     ensures { result ≡ count field.now }
 {
-    let Some(n) = number_in(field) else {
-        return None;
-    };
+    let n = number_in(field)?;
     i64::try_from(n).ok()
 }
 
@@ -227,9 +221,7 @@ pub fn path_in(alloc: Global, field: &[u8]) -> Result<Option<PathText>, OutOfMem
 pub fn inode_in(field: &[u8]) -> Option<u64>
     ensures { result ≡ inode_of field.now }
 {
-    let Some(n) = number_in(field) else {
-        return None;
-    };
+    let n = number_in(field)?;
     if n < 1 << 63 && 1 <= n { Some(n) } else { None }
 }
 
@@ -238,8 +230,6 @@ pub fn size_in(field: &[u8]) -> Option<u64>
     ensures is { result ≡ size_of field.now }
     ensures most { IfSome result (λ n. n ≤ 2 ^ 40) }
 {
-    let Some(n) = number_in(field) else {
-        return None;
-    };
+    let n = number_in(field)?;
     if n <= 1 << 40 { Some(n) } else { None }
 }

@@ -1,5 +1,5 @@
 //! What each line of a script says by itself: the header, `clock`, `who`, `usage`, `restorer`, `page`, `dir`, `file`,
-//! `data`, `poke`, `call`, `advance` and `show`.
+//! `data`, `lock`, `poke`, `call`, `advance` and `show`.
 
 ghost use Rattle.std.specs.Prelude.{◌≡◌, ◌^◌, ◌<◌, ◌≤◌, [], length, IfOk, IfSome};
 ghost use Rattle.std.specs.Option.{option_map, unwrap_or};
@@ -53,15 +53,9 @@ fn clock_of(rest: &[u8]) -> Option<Record>
     ensures page { IfSome result (λ x. IsInRange (line_of x)) }
 {
     let (first, after) = cut_field(rest);
-    let Some(second) = after else {
-        return None;
-    };
-    let Some(real) = clock_in(first) else {
-        return None;
-    };
-    let Some(monotonic) = clock_in(second) else {
-        return None;
-    };
+    let second = after?;
+    let real = clock_in(first)?;
+    let monotonic = clock_in(second)?;
     Some(Record::Clock { real, monotonic })
 }
 
@@ -69,9 +63,7 @@ fn clock_of(rest: &[u8]) -> Option<Record>
 fn pid_in(field: &[u8]) -> Option<u32>
     ensures { result ≡ pid_of field.now }
 {
-    let Some(pid) = word_in(field) else {
-        return None;
-    };
+    let pid = word_in(field)?;
     if 1 <= pid && pid <= 0x3f_ffff {
         Some(pid)
     } else {
@@ -97,29 +89,15 @@ fn who_of(rest: &[u8]) -> Option<Record>
     ensures page { IfSome result (λ x. IsInRange (line_of x)) }
 {
     let (first, after) = cut_field(rest);
-    let Some(second) = after else {
-        return None;
-    };
+    let second = after?;
     let (second, after) = cut_field(second);
-    let Some(third) = after else {
-        return None;
-    };
+    let third = after?;
     let (third, after) = cut_field(third);
-    let Some(fourth) = after else {
-        return None;
-    };
-    let Some(pid) = pid_in(first) else {
-        return None;
-    };
-    let Some(uid) = word_in(second) else {
-        return None;
-    };
-    let Some(gid) = word_in(third) else {
-        return None;
-    };
-    let Some(privileged) = privilege_in(fourth) else {
-        return None;
-    };
+    let fourth = after?;
+    let pid = pid_in(first)?;
+    let uid = word_in(second)?;
+    let gid = word_in(third)?;
+    let privileged = privilege_in(fourth)?;
     let owner = Credentials { pid, uid, gid };
     Some(Record::Who { owner, privileged })
 }
@@ -129,9 +107,7 @@ fn usage_of(rest: &[u8]) -> Option<Record>
     ensures line { option_map line_of result ≡ usage_line rest.now }
     ensures page { IfSome result (λ x. IsInRange (line_of x)) }
 {
-    let Some(words) = counts_in::<18>(rest) else {
-        return None;
-    };
+    let words = counts_in::<18>(rest)?;
     let usage = Usage { words };
     Some(Record::Usage { usage })
 }
@@ -141,9 +117,7 @@ fn restorer_of(rest: &[u8]) -> Option<Record>
     ensures line { option_map line_of result ≡ restorer_line rest.now }
     ensures page { IfSome result (λ x. IsInRange (line_of x)) }
 {
-    let Some(address) = word_in(rest) else {
-        return None;
-    };
+    let address = word_in(rest)?;
     Some(Record::Restorer { address })
 }
 
@@ -281,9 +255,7 @@ fn lock_kind_in(field: &[u8]) -> Option<bool>
 fn holder_in(field: &[u8]) -> Option<u32>
     ensures { result ≡ holder_of field.now }
 {
-    let Some(n) = number_in(field) else {
-        return None;
-    };
+    let n = number_in(field)?;
     if n < 1 << 31 { Some(n as u32) } else { None }
 }
 
@@ -368,9 +340,7 @@ fn call_of(abi: AbiKind, rest: &[u8]) -> Option<Record>
     ensures line { option_map line_of result ≡ call_line abi rest.now }
     ensures page { IfSome result (λ x. IsInRange (line_of x)) }
 {
-    let Some(registers) = registers_of(abi, rest) else {
-        return None;
-    };
+    let registers = registers_of(abi, rest)?;
     Some(Record::Call { registers })
 }
 
@@ -379,9 +349,7 @@ fn advance_of(rest: &[u8]) -> Option<Record>
     ensures line { option_map line_of result ≡ advance_line rest.now }
     ensures page { IfSome result (λ x. IsInRange (line_of x)) }
 {
-    let Some(nanos) = clock_in(rest) else {
-        return None;
-    };
+    let nanos = clock_in(rest)?;
     Some(Record::Advance { nanos })
 }
 

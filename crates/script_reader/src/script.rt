@@ -4,7 +4,8 @@ ghost use Rattle.std.specs.Prelude.{◌≡◌, ℕ, ◌+◌, ◌^◌, ◌<◌, �
 ghost use Rattle.io_edge.specs.Told.{put_back};
 ghost use Rattle.script_reader.specs.Ahead.{bytes_of, IsSound};
 ghost use Rattle.script_reader.specs.Script.{next_from};
-ghost use Rattle.script_reader.specs.Reads.{new_script, next_in, script_left, next_ahead, read_count, Answers, TakesFew, Counts, IsFound, IsNextOf, state_after, IsEndOf};
+ghost use Rattle.script_reader.specs.Grammar.{Line};
+ghost use Rattle.script_reader.specs.Reads.{HasGiven, GivesBehind, new_script, next_in, script_left, next_ahead, read_count, Answers, TakesFew, Counts, IsFound, IsNextOf, state_after, IsEndOf};
 
 use crate::ahead::{Ahead, Stop, line_end};
 use crate::fault::{LineCause, ScriptFault};
@@ -111,7 +112,8 @@ fn read_record<S: Source>(
 impl Script {
     /// A reader at the beginning of a script. `OutOfMemory` where there is no memory for it.
     pub fn new(alloc: Global) -> Result<Script, OutOfMemory>
-        ensures { IfOk result (λ s. s ≡ new_script) }
+        ensures fresh { IfOk result (λ s. s ≡ new_script) }
+        ensures given { IfOk result (λ s. HasGiven s []) }
     {
         Ok(Script {
             alloc,
@@ -153,6 +155,9 @@ impl Script {
         // Where the source tells its bytes, the answer is the next of what was left of the script.
         ensures told { (bytes : List ℕ) → S.left source.old ≡ Some bytes →
             IsNextOf (script_left self.old bytes) (S.left source.new) result self.new }
+
+        // Whatever the source tells, all records so far are those of a script, with the ending that the last call tells.
+        ensures given { (lines : List Line) → HasGiven self.old lines → GivesBehind lines result self.new }
     {
         let answer = read_record(self.alloc, &mut self.seen, &mut self.ahead, source);
         self.alive = answer.is_ok();

@@ -243,6 +243,15 @@ fn a_failed_read_ends_it(rt: HostRuntime) -> Result<(), Fail> {
     Ok(())
 }
 
+#[test]
+fn a_bad_line_is_told_in_words(rt: HostRuntime) -> Result<(), Fail> {
+    let cause = LineCause::Header;
+    let fault = ScriptFault::BadLine { line: 2, cause };
+    let text = format!(in rt.alloc(); "{fault}")?;
+    assert_eq!(rt; text.as_str(), "line 2 is bad: header");
+    Ok(())
+}
+
 /// Behind an end a script goes on with another source.
 #[test]
 fn another_source_goes_on(rt: HostRuntime) -> Result<(), Fail> {

@@ -1,4 +1,4 @@
--- What calls fetch and store besides shapes: paths and data. A call opens none of the opaque words.
+-- What calls fetch and store besides shapes: paths and data. Of the opaque words a call opens none but the store of a listing's record.
 use Rattle.std.specs.Prelude.{ℕ, ◌%◌, ◌^◌, ◌==◌, min, List, length, Option, None, Result, Ok, Err, if◌then◌else◌, ⊤}
 use Rattle.kernel_values.specs.declared.errno.Errno.{Errno}
 use Rattle.kernel_values.specs.declared.errno.Errno.TheVariants.{BadAddress, NameTooLong}

@@ -1,4 +1,4 @@
--- Shapes in user memory, as calls fetch and store them. A call opens none of the opaque words.
+-- Shapes in user memory, as calls fetch and store them. A call on shapes opens none of the opaque words.
 use Rattle.std.specs.Prelude.{ℕ, ◌==◌, List, Option, Some, None, Result, Ok, Err, if◌then◌else◌, ⊤}
 use Rattle.kernel_values.specs.declared.errno.Errno.{Errno}
 use Rattle.kernel_values.specs.declared.errno.Errno.TheVariants.{BadAddress, Overflow}

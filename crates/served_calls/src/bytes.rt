@@ -1,9 +1,10 @@
 //! Paths and data in user memory, with the error numbers that a call answers.
 
-ghost use Rattle.std.specs.Prelude.{◌≡◌, ◌≤◌, IfOk, option_map};
+ghost use Rattle.std.specs.Prelude.{◌≡◌, ◌≤◌, ℕ, true, IfOk, option_map};
 ghost use Rattle.kernel_values.specs.Outcome.{TellsAs};
 ghost use Rattle.served_calls.specs.Bytes.{data_at, low_word, optional_path_at, path_at, room_at, stores_bytes, transfer_count};
 ghost use Rattle.served_calls.specs.Calls.{Delivers};
+ghost use Rattle.user_memory.specs.Memory.{is_writable};
 
 use kernel_values::{Errno, OutOfMemory};
 use std::alloc::Global;
@@ -63,9 +64,10 @@ pub fn low_word(number: u64) -> u32
 }
 
 /// How many of `count` bytes can be stored from an address on, up to the first that can't.
-#[tactic(auto, unfolding(crate::specs::Bytes::room_at))]
+#[tactic(auto, using(crate::proofs::Rooms::fewer_writable), unfolding(crate::specs::Bytes::room_at))]
 pub fn room(memory: &UserMemory, at: u32, count: u32) -> u32
-    ensures { result ≡ room_at memory.now at count }
+    ensures count { result ≡ room_at memory.now at count }
+    ensures writable { (n : ℕ) → n ≤ result → is_writable memory.now at n ≡ true }
 {
     memory.writable_prefix(at, count)
 }

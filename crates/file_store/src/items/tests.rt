@@ -2,7 +2,7 @@
 
 use super::*;
 use crate::WORKING;
-use crate::state::Maker;
+use crate::state::{Maker, Place};
 use kernel_values::{AbiKind, Answer, Lock, OpenFlags, TimeSpec};
 use std::test::Fail;
 
@@ -25,6 +25,7 @@ const READERS: Lock = Lock {
 };
 
 // Directory /d, inode 6, is the working one; file /f, inode 7, with bytes abc00, is open at 0 and 1, and two of them are locked.
+// A pipe, inode 0x1000, has its ends at 2 and 3, and two bytes wait in it.
 fn opened(alloc: Global) -> Answer<Files> {
     let mut files = Files::new(alloc)?;
     files.image_directory(alloc, b"/d", 6)?;
@@ -35,6 +36,8 @@ fn opened(alloc: Global) -> Answer<Files> {
     files.open_by_path(alloc, 9, &MAKER, WORKING, b"/f", flags, 0)?;
     files.duplicate(9, 0, -1, false)?;
     files.set_lock(alloc, 0, &READERS)?;
+    files.pipe(alloc, 9, 0)?;
+    files.write(alloc, MAKER.time, 3, 2, b"xy", Place::Current)?;
     Ok(files)
 }
 
@@ -52,6 +55,7 @@ fn label(item: &StateItem) -> (u8, u64, u64) {
         StateItem::Lock { first, last, .. } => (b'l', *first, *last),
         StateItem::Descriptor { number, serial, .. } => (b'd', *number, *serial),
         StateItem::OpenFile { serial, inode, .. } => (b'o', *serial, *inode),
+        StateItem::Pipe { inode, bytes } => (b'p', *inode, bytes.len() as u64),
         _ => (b'?', 0, 0),
     }
 }
@@ -84,7 +88,12 @@ fn items_come_in_order(rt: HostRuntime) -> Result<(), Fail> {
         (b'l', 1, 2),
         (b'd', 0, 1),
         (b'd', 1, 1),
+        (b'd', 2, 2),
+        (b'd', 3, 3),
         (b'o', 1, 7),
+        (b'o', 2, 0x1000),
+        (b'o', 3, 0x1000),
+        (b'p', 0x1000, 2),
     ];
     assert!(rt; items.as_slice() == expected.as_slice());
     Ok(())

@@ -31,11 +31,11 @@ fn third_second(accessed: i64, modified: i64) -> Option<FileTimes> {
 
 impl Desk {
     fn truncates(&mut self, path: &[u8], length: i64) -> i64 {
-        done(self.files.truncate(LATER, path, length))
+        done(self.files.set_length_at(LATER, path, length))
     }
 
     fn cuts(&mut self, fd: i64, length: i64) -> i64 {
-        done(self.files.truncate_open(LATER, fd, length))
+        done(self.files.set_length(LATER, fd, length))
     }
 
     fn allocates(&mut self, fd: i64, mode: i64, offset: i64, count: i64) -> i64 {

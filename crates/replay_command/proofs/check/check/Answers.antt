@@ -13,11 +13,11 @@ use Rattle.replay_command.proofs.check.check.Goals as goal
 
 pub loop-record-init : goal.loop-record-init
 loop-record-init g c = record {
-  alive = rw c.in_ok-script.ensures refl;
+  alive = rw c.in_ok-script.ensures.fresh refl;
   count = omega arith;
-  reach = rw c.in_ok-script.ensures (omega arith);
+  reach = rw c.in_ok-script.ensures.fresh (omega arith);
   faults = refl;
-  taken = taken_none (g.S.Source.left c.args.source.now) c.in_ok-script.script (λ (text : ScriptText). behind c.args.out.now.items (check_from 0 text)) (λ (bytes : List ℕ). behind c.args.out.now.items (checked_of bytes)) c.in_ok-script.ensures (λ bytes. check_starts c.args.out.now.items bytes);
+  taken = taken_none (g.S.Source.left c.args.source.now) c.in_ok-script.script (λ (text : ScriptText). behind c.args.out.now.items (check_from 0 text)) (λ (bytes : List ℕ). behind c.args.out.now.items (checked_of bytes)) c.in_ok-script.ensures.fresh (λ bytes. check_starts c.args.out.now.items bytes);
 }
 
 pub loop-record-smaller : goal.loop-record-smaller

@@ -9,19 +9,22 @@ use Rattle.script_reader.specs.Reads as reads
 use Rattle.replay_command.specs.Machine.{start}
 use Rattle.replay_command.specs.Run.{behind, run_end, run_from, output_of}
 use Rattle.replay_command.proofs.ScriptSteps.{taken_none, taken_record}
-use Rattle.replay_command.proofs.RunSteps.{run_starts, run_goes, run_ends, ran_memory, ran_whole, ran_fault}
+use Rattle.replay_command.proofs.RunSteps.{run_starts, run_goes, run_ends, ran_memory, ran_nothing, ran_whole, ran_fault}
 use Rattle.replay_command.proofs.run.run.Goals as goal
 
 pub loop-record-init : goal.loop-record-init
 unfolding start
 loop-record-init g c = record {
-  alive = rw c.in_ok-script.ensures refl;
+  alive = rw c.in_ok-script.ensures.fresh refl;
   calls = rw c.in_ok-machine.ensures (omega arith);
-  reach = rw c.in_ok-script.ensures (omega arith);
+  reach = rw c.in_ok-script.ensures.fresh (omega arith);
   faults = refl;
-  taken = taken_none (g.S.Source.left c.args.source.now) c.in_ok-script.script (λ (text : ScriptText). behind c.args.out.now.items (run_from c.in_ok-machine.machine text)) (λ (bytes : List ℕ). behind c.args.out.now.items (output_of bytes)) c.in_ok-script.ensures
+  taken = taken_none (g.S.Source.left c.args.source.now) c.in_ok-script.script (λ (text : ScriptText). behind c.args.out.now.items (run_from c.in_ok-machine.machine text)) (λ (bytes : List ℕ). behind c.args.out.now.items (output_of bytes)) c.in_ok-script.ensures.fresh
       (λ bytes. run_starts c.in_ok-machine.machine c.args.out.now.items bytes c.in_ok-machine.ensures);
 }
+
+pub returns-in_err-script : goal.returns-in_err-script
+returns-in_err-script g c = ran_nothing output_of c.from_residual-in_err-script.result (g.S.Source.left c.args.source.now) _ _ c.args.out.now.items c.args.out.now.items c.from_residual-in_err-script.ensures.1
 
 pub loop-record-smaller : goal.loop-record-smaller
 loop-record-smaller g c =

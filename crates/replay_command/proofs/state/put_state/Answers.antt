@@ -1,4 +1,4 @@
-use Rattle.std.proofs.Common.{◌≡◌, ◌++◌}
+use Rattle.std.proofs.Common.{◌++◌}
 use Rattle.native_kernel.specs.Items.{left}
 use Rattle.replay_command.specs.StateText.{state_text}
 use Rattle.replay_command.proofs.TextSteps.{items_go}

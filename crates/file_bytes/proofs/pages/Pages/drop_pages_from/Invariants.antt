@@ -1,6 +1,6 @@
 -- pages before the first that is dropped stay; each turn drops one
 use Rattle.std.proofs.Common.{◌≡◌, ℕ, ◌<◌, length}
-use Rattle.file_bytes.specs.Table.{at}
+use Rattle.number_maps.specs.NumberMap.{at}
 use Rattle.file_bytes.proofs.pages.Pages.drop_pages_from.Given as goal
 
 abbrev pub invariant-loop-self : goal.invariant-loop-self

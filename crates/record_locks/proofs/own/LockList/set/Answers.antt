@@ -1,12 +1,13 @@
-use Rattle.std.proofs.Common.{◌≡◌, Bool, List, Option, ap, ◌∙◌, subst, sym}
+use Rattle.std.proofs.Common.{◌≡◌, List, Option, ap, ◌∙◌, subst, sym}
 use Rattle.record_locks.specs.Own.{IsOnly, relocked}
 use Rattle.record_locks.specs.declared.state.ByteRange.{ByteRange}
+use Rattle.record_locks.specs.declared.state.LockKind.{LockKind}
 use Rattle.record_locks.specs.declared.state.OwnLock.{OwnLock}
 use Rattle.record_locks.proofs.OwnLocks.{only_maximal, relocked_kind, relocked_maximal, relocked_only}
 use Rattle.record_locks.proofs.own.LockList.set.Goals as goal
 
 -- the locks that were made, of those that were seen
-told : (new seen old : List OwnLock) (wanted : Option Bool) (r : ByteRange) → new ≡ relocked seen wanted r → seen ≡ old → new ≡ relocked old wanted r
+told : (new seen old : List OwnLock) (wanted : Option LockKind) (r : ByteRange) → new ≡ relocked seen wanted r → seen ≡ old → new ≡ relocked old wanted r
 told new seen old wanted r e f = e ∙ ap (λ ls. relocked ls wanted r) f
 
 pub returns-in_err-self-inside-clause-only : goal.returns-in_err-self-inside-clause-only

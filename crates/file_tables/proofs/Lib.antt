@@ -1,0 +1,8 @@
+pub mod Slashes
+pub mod Holdings
+pub mod Texts
+pub mod Slots
+pub mod SlabSteps
+pub mod Lines
+pub mod Insides
+pub mod LinkSums

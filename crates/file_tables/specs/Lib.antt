@@ -1,0 +1,16 @@
+pub mod SlabMap
+pub mod Lends
+pub mod Names
+pub mod Entries
+pub mod Made
+pub mod Directories
+pub mod Kinds
+pub mod Holding
+pub mod Numbers
+pub mod Nodes
+pub mod Contained
+pub mod Places
+pub mod PathTexts
+pub mod Listing
+pub mod Links
+pub mod Times

@@ -1,0 +1,3 @@
+pub mod Ordered
+pub mod FreeNumbers
+pub mod Steps
