@@ -1,6 +1,9 @@
 pub mod Abi
+pub mod Bounds
 pub mod Errno
 pub mod Items
+pub mod Lends
 pub mod OpenFlags
 pub mod Outcome
+pub mod Rules
 pub mod Times

@@ -1,6 +1,7 @@
 //! Lists that values of the kernel hold.
 
-ghost use Rattle.std.specs.Prelude.{◌≡◌, [], ◌∷◌, ◌++◌, List, length, IfOk, OnOk, OnErr};
+ghost use Rattle.std.specs.Prelude.{◌≡◌, ◌<◌, [], ◌∷◌, ◌++◌, List, length, slice_get, Some, IfOk, OnOk, OnErr};
+ghost use Rattle.std.specs.Borrow.{sem};
 
 use crate::errno::OutOfMemory;
 use std::alloc::Global;
@@ -19,6 +20,8 @@ impl<T> Model for ItemList<T> {
 }
 
 impl<T> ItemList<T> {
+    ghost use Rattle.kernel_values.specs.Lends.{lends_item};
+
     /// No items.
     pub fn new(alloc: Global) -> ItemList<T>
         ensures { result ≡ [] }
@@ -39,6 +42,15 @@ impl<T> ItemList<T> {
             Ok(()) => Ok(()),
             Err(_) => Err(OutOfMemory),
         }
+    }
+
+    /// The item at an index, to change in place. All other items stay.
+    pub fn at_mut(&mut self, at: usize) -> &mut T
+        requires { at < length self.old }
+        ensures* writes_back { sem 𝓛 (lends_item T.row self.entry at result) }
+        ensures value { slice_get self.old at ≡ Some result.now }
+    {
+        &mut self.items[at]
     }
 
     /// How many items.
@@ -62,6 +74,8 @@ pub type ByteList = ItemList<u8>;
 pub type NameText = ItemList<u8>;
 /// The bytes of a path.
 pub type PathText = ItemList<u8>;
+/// Numbers of descriptors, or serial numbers of open files.
+pub type FdList = ItemList<u32>;
 
 impl ItemList<u8> {
     /// A copy of these bytes.

@@ -1,4 +1,6 @@
-use crate::{AbiKind, ByteList, Errno, NameText, OpenFlags, TimeSpec, TimeVal};
+use crate::{
+    AbiKind, BlobCause, BlobFault, ByteList, Errno, Name, NameText, OpenFlags, TimeSpec, TimeVal,
+};
 use std::test::Fail;
 
 #[test]
@@ -84,4 +86,29 @@ fn lists_grow_at_their_end(rt: HostRuntime) -> Result<(), Fail> {
     let copy = NameText::from_slice(rt.alloc(), list.as_slice())?;
     assert_eq!(rt; copy.as_slice()[0], 7);
     Ok(())
+}
+
+#[test]
+fn one_item_of_a_list_changes(rt: HostRuntime) -> Result<(), Fail> {
+    let mut list = ByteList::from_slice(rt.alloc(), b"abc")?;
+    assert_eq!(rt; list.len(), 3);
+    *list.at_mut(1) = b'x';
+    assert_eq!(rt; list.as_slice(), b"axc".as_slice());
+    Ok(())
+}
+
+#[test]
+fn a_name_keeps_its_bytes(rt: HostRuntime) {
+    assert_eq!(rt; Name::new(b"\0name").as_slice(), b"\0name".as_slice());
+    assert_eq!(rt; Name::new(b"").as_slice().len(), 0);
+    assert_eq!(rt; Name::new(&[7; 108]).as_slice().len(), 108);
+}
+
+#[test]
+fn faults_of_rule_bytes_have_error_numbers(rt: HostRuntime) {
+    let errno = |cause| BlobFault { rule: 3, cause }.errno();
+    assert_eq!(rt; errno(BlobCause::MatchUnknown), Errno::NoEntry);
+    assert_eq!(rt; errno(BlobCause::TargetUnknown), Errno::NoEntry);
+    assert_eq!(rt; errno(BlobCause::Loop), Errno::Loop);
+    assert_eq!(rt; errno(BlobCause::Jump), Errno::InvalidArgument);
 }
