@@ -16,14 +16,14 @@ use Rattle.time_layouts.specs.Times.{time_spec, time_val}
 use Rattle.served_calls.specs.Calls.{Call, Delivery, Memory, on_fetched, gives_word, fails, optional, ◌>>◌}
 use Rattle.served_calls.specs.Shapes.{shape_at, stores}
 
-unfoldable pub clock_gettime : AbiRules → Args → Memory → Kernel → Call ℕ
+unfoldable pub clock_gettime : AbiRules → Args → Memory → Kernel → Call Kernel ℕ
 clock_gettime abi args m k = record {
-  operation = native.clock k (signed args 0);
+  operation = (native.clock k (signed args 0), k);
   deliver = λ now. stores time_spec abi (word args 1) (record { time = time_of now }) >> gives_word 0;
   keeps = false;
 }
 
-unfoldable pub clock_settime : AbiRules → Args → Memory → Kernel → Call ⊤
+unfoldable pub clock_settime : AbiRules → Args → Memory → Kernel → Call Kernel ⊤
 clock_settime abi args m k = record {
   operation = on_fetched k (shape_at time_spec abi m (word args 1)) (λ t. native.set_clock k (signed args 0) t.time);
   deliver = λ _. gives_word 0;
@@ -34,9 +34,9 @@ clock_settime abi args m k = record {
 abbrev pub no_zone : TimeVal32
 no_zone = record { time = record { seconds = pos 0; micros = pos 0 } }
 
-unfoldable pub gettimeofday : AbiRules → Args → Memory → Kernel → Call ℕ
+unfoldable pub gettimeofday : AbiRules → Args → Memory → Kernel → Call Kernel ℕ
 gettimeofday abi args m k = record {
-  operation = native.clock k (pos 0);
+  operation = (native.clock k (pos 0), k);
   deliver = λ now. optional (word args 0) (stores time_val abi (word args 0) (record { time = micros_of now })) >> optional (word args 1) (stores time_val abi (word args 1) no_zone) >> gives_word 0;
   keeps = false;
 }
@@ -51,7 +51,7 @@ slept_told absolute abi at Whole = gives_word 0
 slept_told absolute abi at (Cut rest) = rest_told absolute abi at rest >> fails Interrupted
 
 -- the sleep stands where its rest can't be stored
-unfoldable pub nanosleep : AbiRules → Args → Memory → Kernel → Call Slept
+unfoldable pub nanosleep : AbiRules → Args → Memory → Kernel → Call Kernel Slept
 nanosleep abi args m k = record {
   operation = on_fetched k (shape_at time_spec abi m (word args 0)) (λ t. native.sleep k (pos 1) false t.time);
   deliver = slept_told false abi (word args 1);
@@ -62,9 +62,9 @@ nanosleep abi args m k = record {
 abbrev pub resolution : TimeSpec
 resolution = record { seconds = pos 0; nanos = pos 1 }
 
-unfoldable pub clock_getres : AbiRules → Args → Memory → Kernel → Call ℕ
+unfoldable pub clock_getres : AbiRules → Args → Memory → Kernel → Call Kernel ℕ
 clock_getres abi args m k = record {
-  operation = native.clock k (signed args 0);
+  operation = (native.clock k (signed args 0), k);
   deliver = λ _. optional (word args 1) (stores time_spec abi (word args 1) (record { time = resolution })) >> gives_word 0;
   keeps = false;
 }
@@ -73,7 +73,7 @@ clock_getres abi args m k = record {
 abbrev pub is_absolute : ℤ → Bool
 is_absolute flags = cast_unsigned w64 flags % 2 == 1
 
-unfoldable pub clock_nanosleep : AbiRules → Args → Memory → Kernel → Call Slept
+unfoldable pub clock_nanosleep : AbiRules → Args → Memory → Kernel → Call Kernel Slept
 clock_nanosleep abi args m k = record {
   operation = on_fetched k (shape_at time_spec abi m (word args 2)) (λ t. native.sleep k (signed args 0) (is_absolute (signed args 1)) t.time);
   deliver = slept_told (is_absolute (signed args 1)) abi (word args 3);

@@ -1,40 +1,45 @@
 -- One call of a process, whole.
-use Rattle.std.specs.Prelude.{◌≡◌, ℕ, Bool, true, false, take, Option, Some, None, Result, Ok, Err}
+use Rattle.std.specs.Prelude.{◌≡◌, ℕ, Bool, true, Option, Some, None, Result, Ok, Err}
 use Rattle.kernel_values.specs.Errno.{errno_word}
 use Rattle.kernel_values.specs.declared.errno.Errno.{Errno}
 use Rattle.kernel_values.specs.declared.errno.Errno.TheVariants.{NoCall}
 use Rattle.kernel_values.specs.declared.errno.OutOfMemory.{OutOfMemory}
 use Rattle.native_kernel.specs.declared.state.Kernel.{Kernel}
+use Rattle.native_kernel.specs.Operations.{end_of}
 use Rattle.kernel_values.specs.declared.process_end.End.{End}
 use Rattle.abi_registers.specs.declared.registers.Registers.{Registers}
 use Rattle.abi_registers.specs.Arguments.{args_of}
 use Rattle.abi_registers.specs.Places.{kind_in, number_in, words_in, with_result}
 use Rattle.layout_laws.specs.Abis.{AbiRules, rules_of}
-use Rattle.call_tables.specs.declared.find.Row.{Row}
-use Rattle.call_tables.specs.Rows.{row}
-use Rattle.served_calls.specs.Calls.{Memory, Served}
+use Rattle.call_tables.specs.Rows.{CallRow, row}
+use Rattle.scratch_region.specs.Needs.{counted}
+use Rattle.served_calls.specs.Calls.{Memory, Served, Service, spare}
 use Rattle.compat_calls.specs.declared.world.World.{World}
-use Rattle.compat_calls.specs.Choice.{served_call, takes_memory}
+use Rattle.compat_calls.specs.Choice.{call_need, call_service}
 
 -- the registers and the world after a call
 abbrev pub Trapped : Type 0
 Trapped = Registers × World
 
--- the answer of a row to the words of the registers; a number without a row is no call
-abbrev pub by_row : AbiRules → Registers → Memory → Kernel → Option Row → Served
-by_row abi r m k None = (Err NoCall, (m, k))
-by_row abi r m k (Some row) = served_call row.operation abi (args_of (kind_in r) (words_in r) (take row.count row.forms)) m k
+-- what serves a row with the words of the registers; a number without a row is no call
+abbrev pub by_row : AbiRules → Registers → Memory → Kernel → Option CallRow → Service Kernel
+by_row abi r m k None = spare (Err NoCall, (m, k))
+by_row abi r m k (Some row) = call_service row.operation abi (args_of (kind_in r) (words_in r) row.forms) m k
 
-unfoldable pub call_served : AbiRules → Registers → Memory → Kernel → Served
-call_served abi r m k = by_row abi r m k (row (kind_in r) (number_in r))
+unfoldable pub service_of : AbiRules → Registers → Memory → Kernel → Service Kernel
+service_of abi r m k = by_row abi r m k (row (kind_in r) (number_in r))
 
--- whether the call of a row may take memory
-abbrev pub row_takes : Option Row → Bool
-row_takes None = false
-row_takes (Some row) = takes_memory row.operation
+-- how many bytes of the region for translation a row takes
+abbrev pub row_need : Registers → Kernel → Option CallRow → ℕ
+row_need r k None = 0
+row_need r k (Some row) = call_need row.operation (args_of (kind_in r) (words_in r) row.forms) k
 
-unfoldable pub call_takes_memory : Registers → Bool
-call_takes_memory r = row_takes (row (kind_in r) (number_in r))
+unfoldable pub need_of : Registers → Kernel → ℕ
+need_of r k = row_need r k (row (kind_in r) (number_in r))
+
+-- whether memory may be wanting for the call of these registers
+unfoldable pub may_want : Registers → World → Bool
+may_want r w = (service_of (rules_of (kind_in r)) r w.memory w.kernel).takes
 
 abbrev pub result_word : Result ℕ Errno → ℕ
 result_word (Ok w) = w
@@ -45,16 +50,19 @@ abbrev pub answered_registers : Registers → Result ℕ Errno → Option End �
 answered_registers r answer None = with_result r (result_word answer)
 answered_registers r answer (Some end) = r
 
--- the world and the registers that a served call leaves
-abbrev pub left_by : Registers → World → Served → Trapped
-left_by r w s = (answered_registers r s.0 s.1.1.ended, record w { memory = s.1.0; kernel = s.1.1 })
+-- the world and the registers that a served call leaves; of the region that it took and gave back the peak is left
+abbrev pub left_by : Registers → World → ℕ → Served Kernel → Trapped
+left_by r w need s = (answered_registers r s.0 (end_of s.1.1), record w { memory = s.1.0; kernel = s.1.1; scratch = counted w.scratch need })
 
--- one call of a process: its row's call, or no call, and then the result in its place
-unfoldable pub trapped : Registers → World → Trapped
-trapped r w = left_by r w (call_served (rules_of (kind_in r)) r w.memory w.kernel)
+-- a row's call, or no call, and then the result in its place
+unfoldable pub called : Registers → World → Trapped
+called r w = left_by r w (need_of r w.kernel) (service_of (rules_of (kind_in r)) r w.memory w.kernel).outcome
 
--- A trap left the registers and the world of its definition. Want of memory comes only where the
--- call may take memory.
+-- one call of a process; nothing follows it
+abbrev pub trapped : Registers → World → Trapped
+trapped r w = called r w
+
+-- A trap left the registers and the world of its definition. Want of memory comes only where it may.
 abbrev pub Traps : Bool → Result Registers OutOfMemory → World → Trapped → Type 0
 Traps takes (Ok r) world defined = defined ≡ (r, world)
 Traps takes (Err e) world defined = takes ≡ true

@@ -1,10 +1,13 @@
 //! One call of a process, whole.
 
-ghost use Rattle.std.specs.Prelude.{◌≡◌, None};
+ghost use Rattle.std.specs.Prelude.{◌≡◌, ◌≤◌, None};
 ghost use Rattle.abi_registers.specs.Places.{kind_in};
 ghost use Rattle.layout_laws.specs.Abis.{rules};
-ghost use Rattle.served_calls.specs.Calls.{ServesBy};
-ghost use Rattle.compat_calls.specs.Trap.{Traps, call_served, call_takes_memory, trapped};
+ghost use Rattle.native_kernel.specs.Operations.{end_of};
+ghost use Rattle.scratch_region.specs.Needs.{IsEmpty, Takes};
+ghost use Rattle.served_calls.specs.Calls.{ServesAs};
+ghost use Rattle.compat_calls.specs.Trap.{Traps, may_want, need_of, service_of, trapped};
+ghost use Rattle.compat_calls.specs.World.{IsReady};
 
 use crate::choice::serve_row;
 use crate::world::World;
@@ -13,42 +16,55 @@ use call_tables::find_row;
 use kernel_values::{AbiKind, Answer, Errno, KernelFault, OutOfMemory};
 use layout_laws::{ArmEabi, Compat, Ia32};
 use native_kernel::Kernel;
+use scratch_region::Scratch;
 use std::alloc::Global;
 use user_memory::UserMemory;
 
 /// The answer of the call that the registers name. ENOSYS for a number without a row.
-#[tactic(auto, unfolding(crate::specs::Trap::call_served, crate::specs::Trap::call_takes_memory))]
+#[tactic(auto, using(scratch_region::proofs::Counts::none_taken), unfolding(crate::specs::Trap::service_of, crate::specs::Trap::need_of))]
 fn answer<A: Compat>(
     alloc: Global,
     memory: &mut UserMemory,
     kernel: &mut Kernel,
+    scratch: &mut Scratch,
     registers: &Registers,
 ) -> Answer<u32>
-    ensures { ServesBy (call_takes_memory registers.now) result memory.new kernel.new (call_served (rules A.KIND A.ALIGN64) registers.now memory.old kernel.old) }
+    requires empty { IsEmpty scratch.old }
+    requires room { 16384 ≤ scratch.old.capacity }
+    ensures serves { ServesAs result memory.new kernel.new (service_of (rules A.KIND A.ALIGN64) registers.now memory.old kernel.old) }
+    ensures region { Takes (need_of registers.now kernel.old) result scratch.old scratch.new }
 {
     let Some(row) = find_row(registers.kind(), registers.number()) else {
         return Err(KernelFault::Errno(Errno::NoCall));
     };
     let args = registers.arguments(&row.forms[..row.count]);
-    serve_row::<A>(alloc, memory, kernel, row.operation, &args)
+    serve_row::<A>(alloc, memory, kernel, scratch, row.operation, &args)
 }
 
 /// Serves one call of a process that hasn't ended, and answers its registers after it: the result in
 /// eax or r0, an error number as its two's complement, and all others as they were. A call that ends
 /// the process leaves all of them.
 ///
+/// Of the region, which is empty before and after, the peak moves to what the call took where that is more.
 /// Want of memory comes only for a call that may take memory.
-#[tactic(auto, unfolding(crate::specs::Trap::trapped))]
+#[tactic(auto, unfolding(crate::specs::Trap::called, crate::specs::Trap::may_want))]
 pub fn trap<A: Compat>(
     alloc: Global,
     world: &mut World,
     registers: &Registers,
 ) -> Result<Registers, OutOfMemory>
     requires kind { kind_in registers.now ≡ A.KIND }
-    requires running { world.old.kernel.ended ≡ None }
-    ensures { Traps (call_takes_memory registers.now) result world.new (trapped registers.now world.old) }
+    requires running { end_of world.old.kernel ≡ None }
+    requires ready { IsReady world.old }
+    ensures { Traps (may_want registers.now world.old) result world.new (trapped registers.now world.old) }
 {
-    let word = match answer::<A>(alloc, &mut world.memory, &mut world.kernel, registers) {
+    let word = match answer::<A>(
+        alloc,
+        &mut world.memory,
+        &mut world.kernel,
+        &mut world.scratch,
+        registers,
+    ) {
         Ok(word) => word,
         Err(KernelFault::Errno(errno)) => errno.word(),
         Err(KernelFault::OutOfMemory) => return Err(OutOfMemory),
@@ -65,8 +81,9 @@ pub fn trap_by_kind(
     world: &mut World,
     registers: &Registers,
 ) -> Result<Registers, OutOfMemory>
-    requires running { world.old.kernel.ended ≡ None }
-    ensures { Traps (call_takes_memory registers.now) result world.new (trapped registers.now world.old) }
+    requires running { end_of world.old.kernel ≡ None }
+    requires ready { IsReady world.old }
+    ensures { Traps (may_want registers.now world.old) result world.new (trapped registers.now world.old) }
 {
     match registers.kind() {
         AbiKind::Ia32 => trap::<Ia32>(alloc, world, registers),

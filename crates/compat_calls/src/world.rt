@@ -2,8 +2,12 @@
 
 use kernel_values::OutOfMemory;
 use native_kernel::{Identity, Kernel};
+use scratch_region::Scratch;
 use std::alloc::Global;
 use user_memory::UserMemory;
+
+/// How many bytes of the region one call may take.
+pub const REGION_SIZE: usize = 1_310_720;
 
 /// A process and the kernel behind it. `restorer` is the return address of signal handlers whose
 /// action gives none; it has no effect before signals are delivered.
@@ -11,6 +15,8 @@ use user_memory::UserMemory;
 pub struct World {
     pub memory: UserMemory,
     pub kernel: Kernel,
+    /// What calls translate stands here. It is empty between calls.
+    pub scratch: Scratch,
     pub restorer: u32,
 }
 
@@ -27,6 +33,7 @@ impl World {
         Ok(World {
             memory: UserMemory::new(alloc)?,
             kernel: Kernel::new(alloc, identity)?,
+            scratch: Scratch::new(alloc, REGION_SIZE)?,
             restorer,
         })
     }

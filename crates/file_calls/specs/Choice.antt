@@ -1,23 +1,32 @@
--- The call of each row on files, by its kind.
-use Rattle.std.specs.Prelude.{Bool, true, false}
+-- The choice among the calls on files: a line for each tells what serves it, and whether memory may be wanting for it.
+use Rattle.std.specs.Prelude.{ℕ, true, false}
 use Rattle.native_kernel.specs.declared.state.Kernel.{Kernel}
 use Rattle.abi_registers.specs.declared.arguments.Args.{Args}
+use Rattle.abi_registers.specs.Values.{word}
 use Rattle.layout_laws.specs.Abis.{AbiRules}
 use Rattle.call_tables.specs.declared.operation.FileOperation.{FileOperation}
-use Rattle.call_tables.specs.declared.operation.FileOperation.TheVariants.{Path, Name, Descriptor, Transfer, Status, Length}
+use Rattle.call_tables.specs.declared.operation.FileOperation.TheVariants.{Paths, Names, Descriptors, Pipes, Transfers, Listings, Status, Retiming, Lengths}
 use Rattle.call_tables.specs.declared.operation.PathOperation.{PathOperation}
 use Rattle.call_tables.specs.declared.operation.PathOperation.TheVariants.{Chdir, Getcwd, Open, Openat}
 use Rattle.call_tables.specs.declared.operation.NameOperation.{NameOperation}
 use Rattle.call_tables.specs.declared.operation.NameOperation.TheVariants.{Mkdir, Mkdirat, Rename, Rmdir, Unlink, Unlinkat}
 use Rattle.call_tables.specs.declared.operation.DescriptorOperation.{DescriptorOperation}
-use Rattle.call_tables.specs.declared.operation.DescriptorOperation.TheVariants.{Close, Dup, Dup2, Dup3, Fcntl, Fcntl64, Pipe, Pipe2}
+use Rattle.call_tables.specs.declared.operation.DescriptorOperation.TheVariants.{Close, Dup, Dup2, Dup3, Fcntl, Fcntl64}
+use Rattle.call_tables.specs.declared.operation.PipeOperation.{PipeOperation}
+use Rattle.call_tables.specs.declared.operation.PipeOperation.TheVariants.{Pipe, Pipe2}
 use Rattle.call_tables.specs.declared.operation.TransferOperation.{TransferOperation}
-use Rattle.call_tables.specs.declared.operation.TransferOperation.TheVariants.{Getdents, Getdents64, Llseek, Lseek, Pread64, Pwrite64, Read, Write}
+use Rattle.call_tables.specs.declared.operation.TransferOperation.TheVariants.{Llseek, Lseek, Pread64, Pwrite64, Read, Write}
+use Rattle.call_tables.specs.declared.operation.ListingOperation.{ListingOperation}
+use Rattle.call_tables.specs.declared.operation.ListingOperation.TheVariants.{Getdents, Getdents64}
 use Rattle.call_tables.specs.declared.operation.StatusOperation.{StatusOperation}
-use Rattle.call_tables.specs.declared.operation.StatusOperation.TheVariants.{Fstat, Fstat64, Fstatat64, Stat, Stat64, Utimensat}
+use Rattle.call_tables.specs.declared.operation.StatusOperation.TheVariants.{Fstat, Fstat64, Fstatat64, Stat, Stat64}
+use Rattle.call_tables.specs.declared.operation.RetimingOperation.{RetimingOperation}
+use Rattle.call_tables.specs.declared.operation.RetimingOperation.TheVariants.{Utimensat}
 use Rattle.call_tables.specs.declared.operation.LengthOperation.{LengthOperation}
 use Rattle.call_tables.specs.declared.operation.LengthOperation.TheVariants.{Fallocate, Ftruncate, Ftruncate64, Truncate, Truncate64}
-use Rattle.served_calls.specs.Calls.{Memory, Served, served}
+use Rattle.file_store.specs.Transfers.{moves_bytes}
+use Rattle.served_calls.specs.Calls.{Memory, Service, served, spare, taking, taking_if}
+use Rattle.file_calls.specs.Commands.{command_64_of, command_of, command_takes_memory}
 use Rattle.file_calls.specs.Descriptors as descriptors
 use Rattle.file_calls.specs.Lengths as lengths
 use Rattle.file_calls.specs.Listings as listings
@@ -28,105 +37,80 @@ use Rattle.file_calls.specs.Retiming as retiming
 use Rattle.file_calls.specs.Status as status
 use Rattle.file_calls.specs.Transfers as transfers
 
-unfoldable pub served_path : PathOperation → AbiRules → Args → Memory → Kernel → Served
-served_path Chdir abi args m k = served (paths.chdir abi args) m k
-served_path Getcwd abi args m k = served (paths.getcwd abi args) m k
-served_path Open abi args m k = served (paths.open_path abi args) m k
-served_path Openat abi args m k = served (paths.open_path_at abi args) m k
+unfoldable pub path_service : PathOperation → AbiRules → Args → Memory → Kernel → Service Kernel
+path_service Chdir abi args m k = spare (served (paths.chdir abi args) m k)
+path_service Getcwd abi args m k = taking (served (paths.getcwd abi args) m k)
+path_service Open abi args m k = taking (served (paths.open_path abi args) m k)
+path_service Openat abi args m k = taking (served (paths.open_path_at abi args) m k)
 
-unfoldable pub served_name : NameOperation → AbiRules → Args → Memory → Kernel → Served
-served_name Mkdir abi args m k = served (names.mkdir abi args) m k
-served_name Mkdirat abi args m k = served (names.mkdirat abi args) m k
-served_name Rename abi args m k = served (names.rename abi args) m k
-served_name Rmdir abi args m k = served (names.rmdir abi args) m k
-served_name Unlink abi args m k = served (names.unlink abi args) m k
-served_name Unlinkat abi args m k = served (names.unlinkat abi args) m k
+unfoldable pub name_service : NameOperation → AbiRules → Args → Memory → Kernel → Service Kernel
+name_service Mkdir abi args m k = taking (served (names.mkdir abi args) m k)
+name_service Mkdirat abi args m k = taking (served (names.mkdirat abi args) m k)
+name_service Rename abi args m k = taking (served (names.rename abi args) m k)
+name_service Rmdir abi args m k = spare (served (names.rmdir abi args) m k)
+name_service Unlink abi args m k = spare (served (names.unlink abi args) m k)
+name_service Unlinkat abi args m k = spare (served (names.unlinkat abi args) m k)
 
-unfoldable pub served_descriptor : DescriptorOperation → AbiRules → Args → Memory → Kernel → Served
-served_descriptor Close abi args m k = served (descriptors.close abi args) m k
-served_descriptor Dup abi args m k = served (descriptors.dup abi args) m k
-served_descriptor Dup2 abi args m k = served (descriptors.dup2 abi args) m k
-served_descriptor Dup3 abi args m k = served (descriptors.dup3 abi args) m k
-served_descriptor Fcntl abi args m k = descriptors.fcntl abi args m k
-served_descriptor Fcntl64 abi args m k = descriptors.fcntl64 abi args m k
-served_descriptor Pipe abi args m k = served (pipes.pipe abi args) m k
-served_descriptor Pipe2 abi args m k = served (pipes.pipe2 abi args) m k
+unfoldable pub descriptor_service : DescriptorOperation → AbiRules → Args → Memory → Kernel → Service Kernel
+descriptor_service Close abi args m k = spare (served (descriptors.close abi args) m k)
+descriptor_service Dup abi args m k = taking (served (descriptors.dup abi args) m k)
+descriptor_service Dup2 abi args m k = taking (served (descriptors.dup2 abi args) m k)
+descriptor_service Dup3 abi args m k = taking (served (descriptors.dup3 abi args) m k)
+descriptor_service Fcntl abi args m k = taking_if (command_takes_memory (command_of (word args 1))) (descriptors.fcntl abi args m k)
+descriptor_service Fcntl64 abi args m k = taking_if (command_takes_memory (command_64_of (word args 1))) (descriptors.fcntl64 abi args m k)
 
-unfoldable pub served_transfer : TransferOperation → AbiRules → Args → Memory → Kernel → Served
-served_transfer Getdents abi args m k = listings.getdents false args m k
-served_transfer Getdents64 abi args m k = listings.getdents true args m k
-served_transfer Llseek abi args m k = served (transfers.llseek abi args) m k
-served_transfer Lseek abi args m k = served (transfers.lseek abi args) m k
-served_transfer Pread64 abi args m k = served (transfers.pread64 abi args) m k
-served_transfer Pwrite64 abi args m k = served (transfers.pwrite64 abi args) m k
-served_transfer Read abi args m k = served (transfers.read abi args) m k
-served_transfer Write abi args m k = served (transfers.write abi args) m k
+unfoldable pub pipe_service : PipeOperation → AbiRules → Args → Memory → Kernel → Service Kernel
+pipe_service Pipe abi args m k = taking (served (pipes.pipe abi args) m k)
+pipe_service Pipe2 abi args m k = taking (served (pipes.pipe2 abi args) m k)
 
-unfoldable pub served_status : StatusOperation → AbiRules → Args → Memory → Kernel → Served
-served_status Fstat abi args m k = served (status.fstat abi args) m k
-served_status Fstat64 abi args m k = served (status.fstat64 abi args) m k
-served_status Fstatat64 abi args m k = served (status.fstatat64 abi args) m k
-served_status Stat abi args m k = served (status.stat abi args) m k
-served_status Stat64 abi args m k = served (status.stat64 abi args) m k
-served_status Utimensat abi args m k = served (retiming.utimensat abi args) m k
+unfoldable pub transfer_service : TransferOperation → AbiRules → Args → Memory → Kernel → Service Kernel
+transfer_service Llseek abi args m k = spare (served (transfers.llseek abi args) m k)
+transfer_service Lseek abi args m k = spare (served (transfers.lseek abi args) m k)
+transfer_service Pread64 abi args m k = taking_if (moves_bytes (transfers.pread64 abi args m k).operation.0) (served (transfers.pread64 abi args) m k)
+transfer_service Pwrite64 abi args m k = taking (served (transfers.pwrite64 abi args) m k)
+transfer_service Read abi args m k = taking_if (moves_bytes (transfers.read abi args m k).operation.0) (served (transfers.read abi args) m k)
+transfer_service Write abi args m k = taking (served (transfers.write abi args) m k)
 
-unfoldable pub served_length : LengthOperation → AbiRules → Args → Memory → Kernel → Served
-served_length Fallocate abi args m k = served (lengths.fallocate abi args) m k
-served_length Ftruncate abi args m k = served (lengths.ftruncate abi args) m k
-served_length Ftruncate64 abi args m k = served (lengths.ftruncate abi args) m k
-served_length Truncate abi args m k = served (lengths.truncate abi args) m k
-served_length Truncate64 abi args m k = served (lengths.truncate abi args) m k
+unfoldable pub listing_service : ListingOperation → AbiRules → Args → Memory → Kernel → Service Kernel
+listing_service Getdents abi args m k = taking (listings.getdents false args m k)
+listing_service Getdents64 abi args m k = taking (listings.getdents true args m k)
 
-unfoldable pub served_file : FileOperation → AbiRules → Args → Memory → Kernel → Served
-served_file (Path call) abi args m k = served_path call abi args m k
-served_file (Name call) abi args m k = served_name call abi args m k
-served_file (Descriptor call) abi args m k = served_descriptor call abi args m k
-served_file (Transfer call) abi args m k = served_transfer call abi args m k
-served_file (Status call) abi args m k = served_status call abi args m k
-served_file (Length call) abi args m k = served_length call abi args m k
+unfoldable pub status_service : StatusOperation → AbiRules → Args → Memory → Kernel → Service Kernel
+status_service Fstat abi args m k = spare (served (status.fstat abi args) m k)
+status_service Fstat64 abi args m k = spare (served (status.fstat64 abi args) m k)
+status_service Fstatat64 abi args m k = spare (served (status.fstatat64 abi args) m k)
+status_service Stat abi args m k = spare (served (status.stat abi args) m k)
+status_service Stat64 abi args m k = spare (served (status.stat64 abi args) m k)
 
--- The call may take memory where it opens a descriptor or tells the working directory.
-unfoldable pub path_takes_memory : PathOperation → Bool
-path_takes_memory Chdir = false
-path_takes_memory Getcwd = true
-path_takes_memory Open = true
-path_takes_memory Openat = true
+unfoldable pub retiming_service : RetimingOperation → AbiRules → Args → Memory → Kernel → Service Kernel
+retiming_service Utimensat abi args m k = spare (served (retiming.utimensat abi args) m k)
 
--- The call may take memory where it makes or moves a name.
-unfoldable pub name_takes_memory : NameOperation → Bool
-name_takes_memory Mkdir = true
-name_takes_memory Mkdirat = true
-name_takes_memory Rename = true
-name_takes_memory Rmdir = false
-name_takes_memory Unlink = false
-name_takes_memory Unlinkat = false
+unfoldable pub length_service : LengthOperation → AbiRules → Args → Memory → Kernel → Service Kernel
+length_service Fallocate abi args m k = spare (served (lengths.fallocate abi args) m k)
+length_service Ftruncate abi args m k = spare (served (lengths.ftruncate abi args) m k)
+length_service Ftruncate64 abi args m k = spare (served (lengths.ftruncate abi args) m k)
+length_service Truncate abi args m k = spare (served (lengths.truncate abi args) m k)
+length_service Truncate64 abi args m k = spare (served (lengths.truncate abi args) m k)
 
--- The call may take memory where it copies a descriptor, sets a lock, as commands of fcntl do, or makes a pipe.
-unfoldable pub descriptor_takes_memory : DescriptorOperation → Bool
-descriptor_takes_memory Close = false
-descriptor_takes_memory Dup = true
-descriptor_takes_memory Dup2 = true
-descriptor_takes_memory Dup3 = true
-descriptor_takes_memory Fcntl = true
-descriptor_takes_memory Fcntl64 = true
-descriptor_takes_memory Pipe = true
-descriptor_takes_memory Pipe2 = true
+unfoldable pub file_service : FileOperation → AbiRules → Args → Memory → Kernel → Service Kernel
+file_service (Paths call) abi args m k = path_service call abi args m k
+file_service (Names call) abi args m k = name_service call abi args m k
+file_service (Descriptors call) abi args m k = descriptor_service call abi args m k
+file_service (Pipes call) abi args m k = pipe_service call abi args m k
+file_service (Transfers call) abi args m k = transfer_service call abi args m k
+file_service (Listings call) abi args m k = listing_service call abi args m k
+file_service (Status call) abi args m k = status_service call abi args m k
+file_service (Retiming call) abi args m k = retiming_service call abi args m k
+file_service (Lengths call) abi args m k = length_service call abi args m k
 
--- The call may take memory where it moves bytes or lists a directory.
-unfoldable pub transfer_takes_memory : TransferOperation → Bool
-transfer_takes_memory Getdents = true
-transfer_takes_memory Getdents64 = true
-transfer_takes_memory Llseek = false
-transfer_takes_memory Lseek = false
-transfer_takes_memory Pread64 = true
-transfer_takes_memory Pwrite64 = true
-transfer_takes_memory Read = true
-transfer_takes_memory Write = true
-
-unfoldable pub file_takes_memory : FileOperation → Bool
-file_takes_memory (Path call) = path_takes_memory call
-file_takes_memory (Name call) = name_takes_memory call
-file_takes_memory (Descriptor call) = descriptor_takes_memory call
-file_takes_memory (Transfer call) = transfer_takes_memory call
-file_takes_memory (Status call) = false
-file_takes_memory (Length call) = false
+-- how many bytes of the region for translation the call takes
+unfoldable pub file_need : FileOperation → Args → Kernel → ℕ
+file_need (Paths call) args k = 0
+file_need (Names call) args k = 0
+file_need (Descriptors call) args k = 0
+file_need (Pipes call) args k = 0
+file_need (Transfers call) args k = 0
+file_need (Listings call) args k = 0
+file_need (Status call) args k = 0
+file_need (Retiming call) args k = 0
+file_need (Lengths call) args k = 0

@@ -68,9 +68,9 @@ answering f (Err e, s) = (Err e, s)
 -- what a command asks of the kernel; one that there isn't is refused behind the test of the descriptor
 unfoldable pub asked : AbiKind → Kernel → ℤ → DescriptorCommand → ℕ → Result ℕ Errno × Kernel
 asked kind k fd commands.Duplicate argument = native.duplicate k fd (pos argument) false
-asked kind k fd commands.DescriptorFlags argument = native.fd_flags k fd
+asked kind k fd commands.DescriptorFlags argument = (native.fd_flags k fd, k)
 asked kind k fd commands.SetDescriptorFlags argument = answering (λ _. 0) (native.set_fd_flags k fd argument)
-asked kind k fd commands.OpenFlags argument = answering (to_word kind) (native.open_flags k fd)
+asked kind k fd commands.OpenFlags argument = answering (to_word kind) (native.open_flags k fd, k)
 asked kind k fd commands.SetOpenFlags argument = answering (λ _. 0) (native.set_open_flags k fd (from_word kind argument))
 asked kind k fd commands.DuplicateCloseOnExec argument = native.duplicate k fd (pos argument) true
 asked kind k fd commands.Other argument = (if native.can_use k fd false false then Err InvalidArgument else Err BadDescriptor, k)

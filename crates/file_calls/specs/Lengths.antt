@@ -9,7 +9,7 @@ use Rattle.served_calls.specs.Calls.{Call, Memory, gives_word, on_fetched}
 use Rattle.served_calls.specs.Bytes.{path_at}
 
 -- truncate(path, length), and truncate64, whose length has two words
-unfoldable pub truncate : AbiRules → Args → Memory → Kernel → Call ⊤
+unfoldable pub truncate : AbiRules → Args → Memory → Kernel → Call Kernel ⊤
 truncate abi args m k = record {
   operation = on_fetched k (path_at m (word args 0)) (λ path. native.truncate k path (signed args 1));
   deliver = λ _. gives_word 0;
@@ -17,7 +17,7 @@ truncate abi args m k = record {
 }
 
 -- ftruncate(descriptor, length), and ftruncate64
-unfoldable pub ftruncate : AbiRules → Args → Memory → Kernel → Call ⊤
+unfoldable pub ftruncate : AbiRules → Args → Memory → Kernel → Call Kernel ⊤
 ftruncate abi args m k = record {
   operation = native.truncate_open k (signed args 0) (signed args 1);
   deliver = λ _. gives_word 0;
@@ -25,7 +25,7 @@ ftruncate abi args m k = record {
 }
 
 -- fallocate(descriptor, mode, offset, length)
-unfoldable pub fallocate : AbiRules → Args → Memory → Kernel → Call ⊤
+unfoldable pub fallocate : AbiRules → Args → Memory → Kernel → Call Kernel ⊤
 fallocate abi args m k = record {
   operation = native.allocate k (signed args 0) (signed args 1) (signed args 2) (signed args 3);
   deliver = λ _. gives_word 0;

@@ -46,23 +46,23 @@ listed_records wide at room l (Ok es) m = records wide at room l es m
 listed_records wide at room l (Err e) m = (Err e, m)
 
 -- the position moves behind the last entry stored
-abbrev pub moved : Listed → Memory → Result ℤ Errno × Kernel → Served
+abbrev pub moved : Listed → Memory → Result ℤ Errno × Kernel → Served Kernel
 moved l m (Ok p, k) = (Ok (low_word l.bytes), (m, k))
 moved l m (Err e, k) = (Err e, (m, k))
 
 -- where no record was stored, nothing moves
-abbrev pub listed_to : Kernel → ℤ → Result Listed Errno × Memory → Served
+abbrev pub listed_to : Kernel → ℤ → Result Listed Errno × Memory → Served Kernel
 listed_to k fd (Err e, m) = (Err e, (m, k))
 listed_to k fd (Ok l, m) = if l.bytes == 0 then (Ok 0, (m, k)) else moved l m (native.seek k fd (pos l.position) 0)
 
-abbrev pub listed_from : Bool → ℕ → ℕ → ℤ → ℕ → Memory → Kernel → Served
+abbrev pub listed_from : Bool → ℕ → ℕ → ℤ → ℕ → Memory → Kernel → Served Kernel
 listed_from wide at room fd position m k =
     listed_to k fd (listed_records wide at room (record { bytes = 0; position = position }) (native.listing k fd position) m)
 
-abbrev pub listed_at : Bool → ℕ → ℕ → ℤ → Result ℕ Errno → Memory → Kernel → Served
+abbrev pub listed_at : Bool → ℕ → ℕ → ℤ → Result ℕ Errno → Memory → Kernel → Served Kernel
 listed_at wide at room fd (Err e) m k = (Err e, (m, k))
 listed_at wide at room fd (Ok position) m k = listed_from wide at room fd position m k
 
 -- getdents(descriptor, buffer, count), and with wide records getdents64
-unfoldable pub getdents : Bool → Args → Memory → Kernel → Served
+unfoldable pub getdents : Bool → Args → Memory → Kernel → Served Kernel
 getdents wide args m k = listed_at wide (word args 1) (word args 2) (signed args 0) (native.position k (signed args 0)) m k

@@ -19,7 +19,7 @@ abbrev pub given : {V : Type 0} → Kernel → Args → Result V Errno → Resul
 given k args fetched = if native.can_use k (signed args 0) false false then fetched else Err BadDescriptor
 
 -- F_GETLK: the lock that is told is stored where the one asked for stood, or EOVERFLOW, or EFAULT
-unfoldable pub find_lock : AbiRules → Args → Memory → Kernel → Call Lock
+unfoldable pub find_lock : AbiRules → Args → Memory → Kernel → Call Kernel Lock
 find_lock abi args m k = record {
   operation = on_fetched k (given k args (shape_at lock_32 abi m (word args 2))) (λ (l : Lock32). (native.find_lock k (signed args 0) l.lock, k));
   deliver = λ l. stores lock_32 abi (word args 2) (record { lock = l }) >> gives_word 0;
@@ -27,7 +27,7 @@ find_lock abi args m k = record {
 }
 
 -- F_GETLK64
-unfoldable pub find_lock_64 : AbiRules → Args → Memory → Kernel → Call Lock
+unfoldable pub find_lock_64 : AbiRules → Args → Memory → Kernel → Call Kernel Lock
 find_lock_64 abi args m k = record {
   operation = on_fetched k (given k args (shape_at lock_64 abi m (word args 2))) (λ (l : Lock64). (native.find_lock k (signed args 0) l.lock, k));
   deliver = λ l. stores lock_64 abi (word args 2) (record { lock = l }) >> gives_word 0;
@@ -35,7 +35,7 @@ find_lock_64 abi args m k = record {
 }
 
 -- F_SETLK and F_SETLKW
-unfoldable pub set_lock : AbiRules → Args → Memory → Kernel → Call ⊤
+unfoldable pub set_lock : AbiRules → Args → Memory → Kernel → Call Kernel ⊤
 set_lock abi args m k = record {
   operation = on_fetched k (given k args (shape_at lock_32 abi m (word args 2))) (λ (l : Lock32). native.set_lock k (signed args 0) l.lock);
   deliver = λ _. gives_word 0;
@@ -43,7 +43,7 @@ set_lock abi args m k = record {
 }
 
 -- F_SETLK64 and F_SETLKW64
-unfoldable pub set_lock_64 : AbiRules → Args → Memory → Kernel → Call ⊤
+unfoldable pub set_lock_64 : AbiRules → Args → Memory → Kernel → Call Kernel ⊤
 set_lock_64 abi args m k = record {
   operation = on_fetched k (given k args (shape_at lock_64 abi m (word args 2))) (λ (l : Lock64). native.set_lock k (signed args 0) l.lock);
   deliver = λ _. gives_word 0;

@@ -12,7 +12,7 @@ use Rattle.served_calls.specs.Bytes.{optional_path_at}
 use Rattle.served_calls.specs.Shapes.{optional_shape_at}
 
 -- utimensat(directory, path, times, flags): no path means the descriptor, and no times now
-unfoldable pub utimensat : AbiRules → Args → Memory → Kernel → Call ⊤
+unfoldable pub utimensat : AbiRules → Args → Memory → Kernel → Call Kernel ⊤
 utimensat abi args m k = record {
   operation = on_fetched k (optional_path_at m (word args 1)) (λ path. on_fetched k (optional_shape_at file_times_32 abi m (word args 2)) (λ times.
       native.set_times k (signed args 0) path (option_map (λ (t : FileTimes32). t.times) times) (signed args 3)));

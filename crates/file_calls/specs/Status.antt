@@ -10,7 +10,7 @@ use Rattle.file_layouts.specs.Stats.{stat_32, stat_64}
 use Rattle.served_calls.specs.Calls.{Call, Delivery, Memory, gives_word, on_fetched, ◌>>◌}
 use Rattle.served_calls.specs.Bytes.{path_at}
 use Rattle.served_calls.specs.Shapes.{stores}
-use Rattle.file_calls.specs.Paths.{working}
+use Rattle.kernel_values.specs.Bounds.{at_fdcwd}
 
 -- a status as stat stores it, whole or not at all: EOVERFLOW without form, then EFAULT
 abbrev pub gives_stat : AbiRules → ℕ → Stat → Delivery ℕ
@@ -21,15 +21,15 @@ abbrev pub gives_stat64 : AbiRules → ℕ → Stat → Delivery ℕ
 gives_stat64 abi at s = stores stat_64 abi at (record { stat = s }) >> gives_word 0
 
 -- stat(path, place)
-unfoldable pub stat : AbiRules → Args → Memory → Kernel → Call Stat
+unfoldable pub stat : AbiRules → Args → Memory → Kernel → Call Kernel Stat
 stat abi args m k = record {
-  operation = on_fetched k (path_at m (word args 0)) (λ path. (native.status_at k working path (pos 0), k));
+  operation = on_fetched k (path_at m (word args 0)) (λ path. (native.status_at k at_fdcwd path (pos 0), k));
   deliver = gives_stat abi (word args 1);
   keeps = false;
 }
 
 -- fstat(descriptor, place)
-unfoldable pub fstat : AbiRules → Args → Memory → Kernel → Call Stat
+unfoldable pub fstat : AbiRules → Args → Memory → Kernel → Call Kernel Stat
 fstat abi args m k = record {
   operation = (native.status k (signed args 0), k);
   deliver = gives_stat abi (word args 1);
@@ -37,15 +37,15 @@ fstat abi args m k = record {
 }
 
 -- stat64(path, place)
-unfoldable pub stat64 : AbiRules → Args → Memory → Kernel → Call Stat
+unfoldable pub stat64 : AbiRules → Args → Memory → Kernel → Call Kernel Stat
 stat64 abi args m k = record {
-  operation = on_fetched k (path_at m (word args 0)) (λ path. (native.status_at k working path (pos 0), k));
+  operation = on_fetched k (path_at m (word args 0)) (λ path. (native.status_at k at_fdcwd path (pos 0), k));
   deliver = gives_stat64 abi (word args 1);
   keeps = false;
 }
 
 -- fstat64(descriptor, place)
-unfoldable pub fstat64 : AbiRules → Args → Memory → Kernel → Call Stat
+unfoldable pub fstat64 : AbiRules → Args → Memory → Kernel → Call Kernel Stat
 fstat64 abi args m k = record {
   operation = (native.status k (signed args 0), k);
   deliver = gives_stat64 abi (word args 1);
@@ -53,7 +53,7 @@ fstat64 abi args m k = record {
 }
 
 -- fstatat64(directory, path, place, flags)
-unfoldable pub fstatat64 : AbiRules → Args → Memory → Kernel → Call Stat
+unfoldable pub fstatat64 : AbiRules → Args → Memory → Kernel → Call Kernel Stat
 fstatat64 abi args m k = record {
   operation = on_fetched k (path_at m (word args 1)) (λ path. (native.status_at k (signed args 0) path (signed args 3), k));
   deliver = gives_stat64 abi (word args 2);

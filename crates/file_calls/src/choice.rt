@@ -1,22 +1,22 @@
 //! The choice of a row's function, by the kind of its call.
 
+ghost use Rattle.std.specs.Prelude.{◌≤◌};
 ghost use Rattle.layout_laws.specs.Abis.{rules};
-ghost use Rattle.served_calls.specs.Calls.{ServesAlways, ServesBy};
-ghost use Rattle.file_calls.specs.Choice.{descriptor_takes_memory, file_takes_memory, name_takes_memory, path_takes_memory, served_descriptor, served_file, served_length, served_name, served_path, served_status, served_transfer, transfer_takes_memory};
+ghost use Rattle.scratch_region.specs.Needs.{IsEmpty, Takes};
+ghost use Rattle.served_calls.specs.Calls.{ServesAs};
+ghost use Rattle.file_calls.specs.Choice.{descriptor_service, file_need, file_service, length_service, listing_service, name_service, path_service, pipe_service, retiming_service, status_service, transfer_service};
 
 use crate::{descriptors, lengths, listings, names, paths, pipes, retiming, status, transfers};
 use abi_registers::Args;
-use call_tables::{
-    DescriptorOperation, FileOperation, LengthOperation, NameOperation, PathOperation,
-    StatusOperation, TransferOperation,
-};
+use call_tables::{DescriptorOperation, FileOperation, LengthOperation, ListingOperation, NameOperation, PathOperation, PipeOperation, RetimingOperation, StatusOperation, TransferOperation};
 use kernel_values::Answer;
 use layout_laws::Compat;
 use native_kernel::Kernel;
+use scratch_region::Scratch;
 use std::alloc::Global;
 use user_memory::UserMemory;
 
-#[tactic(auto, unfolding(crate::specs::Choice::served_path, crate::specs::Choice::path_takes_memory))]
+#[tactic(auto, unfolding(crate::specs::Choice::path_service))]
 fn serve_path<A: Compat>(
     alloc: Global,
     memory: &mut UserMemory,
@@ -24,7 +24,7 @@ fn serve_path<A: Compat>(
     operation: PathOperation,
     args: &Args,
 ) -> Answer<u32>
-    ensures { ServesBy (path_takes_memory operation) result memory.new kernel.new (served_path operation (rules A.KIND A.ALIGN64) args.now memory.old kernel.old) }
+    ensures { ServesAs result memory.new kernel.new (path_service operation (rules A.KIND A.ALIGN64) args.now memory.old kernel.old) }
 {
     match operation {
         PathOperation::Chdir => paths::chdir::<A>(memory, kernel, args),
@@ -34,7 +34,7 @@ fn serve_path<A: Compat>(
     }
 }
 
-#[tactic(auto, unfolding(crate::specs::Choice::served_name, crate::specs::Choice::name_takes_memory))]
+#[tactic(auto, unfolding(crate::specs::Choice::name_service))]
 fn serve_name<A: Compat>(
     alloc: Global,
     memory: &mut UserMemory,
@@ -42,7 +42,7 @@ fn serve_name<A: Compat>(
     operation: NameOperation,
     args: &Args,
 ) -> Answer<u32>
-    ensures { ServesBy (name_takes_memory operation) result memory.new kernel.new (served_name operation (rules A.KIND A.ALIGN64) args.now memory.old kernel.old) }
+    ensures { ServesAs result memory.new kernel.new (name_service operation (rules A.KIND A.ALIGN64) args.now memory.old kernel.old) }
 {
     match operation {
         NameOperation::Mkdir => names::mkdir::<A>(alloc, memory, kernel, args),
@@ -54,7 +54,7 @@ fn serve_name<A: Compat>(
     }
 }
 
-#[tactic(auto, using(crate::proofs::Wanting::may_want), unfolding(crate::specs::Choice::served_descriptor, crate::specs::Choice::descriptor_takes_memory))]
+#[tactic(auto, unfolding(crate::specs::Choice::descriptor_service))]
 fn serve_descriptor<A: Compat>(
     alloc: Global,
     memory: &mut UserMemory,
@@ -62,7 +62,7 @@ fn serve_descriptor<A: Compat>(
     operation: DescriptorOperation,
     args: &Args,
 ) -> Answer<u32>
-    ensures { ServesBy (descriptor_takes_memory operation) result memory.new kernel.new (served_descriptor operation (rules A.KIND A.ALIGN64) args.now memory.old kernel.old) }
+    ensures { ServesAs result memory.new kernel.new (descriptor_service operation (rules A.KIND A.ALIGN64) args.now memory.old kernel.old) }
 {
     match operation {
         DescriptorOperation::Close => descriptors::close::<A>(memory, kernel, args),
@@ -71,12 +71,26 @@ fn serve_descriptor<A: Compat>(
         DescriptorOperation::Dup3 => descriptors::dup3::<A>(memory, kernel, args),
         DescriptorOperation::Fcntl => descriptors::fcntl::<A>(alloc, memory, kernel, args),
         DescriptorOperation::Fcntl64 => descriptors::fcntl64::<A>(alloc, memory, kernel, args),
-        DescriptorOperation::Pipe => pipes::pipe::<A>(alloc, memory, kernel, args),
-        DescriptorOperation::Pipe2 => pipes::pipe2::<A>(alloc, memory, kernel, args),
     }
 }
 
-#[tactic(auto, unfolding(crate::specs::Choice::served_transfer, crate::specs::Choice::transfer_takes_memory))]
+#[tactic(auto, unfolding(crate::specs::Choice::pipe_service))]
+fn serve_pipe<A: Compat>(
+    alloc: Global,
+    memory: &mut UserMemory,
+    kernel: &mut Kernel,
+    operation: PipeOperation,
+    args: &Args,
+) -> Answer<u32>
+    ensures { ServesAs result memory.new kernel.new (pipe_service operation (rules A.KIND A.ALIGN64) args.now memory.old kernel.old) }
+{
+    match operation {
+        PipeOperation::Pipe => pipes::pipe::<A>(alloc, memory, kernel, args),
+        PipeOperation::Pipe2 => pipes::pipe2::<A>(alloc, memory, kernel, args),
+    }
+}
+
+#[tactic(auto, unfolding(crate::specs::Choice::transfer_service))]
 fn serve_transfer<A: Compat>(
     alloc: Global,
     memory: &mut UserMemory,
@@ -84,11 +98,9 @@ fn serve_transfer<A: Compat>(
     operation: TransferOperation,
     args: &Args,
 ) -> Answer<u32>
-    ensures { ServesBy (transfer_takes_memory operation) result memory.new kernel.new (served_transfer operation (rules A.KIND A.ALIGN64) args.now memory.old kernel.old) }
+    ensures { ServesAs result memory.new kernel.new (transfer_service operation (rules A.KIND A.ALIGN64) args.now memory.old kernel.old) }
 {
     match operation {
-        TransferOperation::Getdents => listings::getdents::<A>(alloc, memory, kernel, args),
-        TransferOperation::Getdents64 => listings::getdents64::<A>(alloc, memory, kernel, args),
         TransferOperation::Llseek => transfers::llseek::<A>(memory, kernel, args),
         TransferOperation::Lseek => transfers::lseek::<A>(memory, kernel, args),
         TransferOperation::Pread64 => transfers::pread64::<A>(alloc, memory, kernel, args),
@@ -98,14 +110,30 @@ fn serve_transfer<A: Compat>(
     }
 }
 
-#[tactic(auto, unfolding(crate::specs::Choice::served_status))]
+#[tactic(auto, unfolding(crate::specs::Choice::listing_service))]
+fn serve_listing<A: Compat>(
+    alloc: Global,
+    memory: &mut UserMemory,
+    kernel: &mut Kernel,
+    operation: ListingOperation,
+    args: &Args,
+) -> Answer<u32>
+    ensures { ServesAs result memory.new kernel.new (listing_service operation (rules A.KIND A.ALIGN64) args.now memory.old kernel.old) }
+{
+    match operation {
+        ListingOperation::Getdents => listings::getdents::<A>(alloc, memory, kernel, args),
+        ListingOperation::Getdents64 => listings::getdents64::<A>(alloc, memory, kernel, args),
+    }
+}
+
+#[tactic(auto, unfolding(crate::specs::Choice::status_service))]
 fn serve_status<A: Compat>(
     memory: &mut UserMemory,
     kernel: &mut Kernel,
     operation: StatusOperation,
     args: &Args,
 ) -> Answer<u32>
-    ensures { ServesAlways result memory.new kernel.new (served_status operation (rules A.KIND A.ALIGN64) args.now memory.old kernel.old) }
+    ensures { ServesAs result memory.new kernel.new (status_service operation (rules A.KIND A.ALIGN64) args.now memory.old kernel.old) }
 {
     match operation {
         StatusOperation::Fstat => status::fstat::<A>(memory, kernel, args),
@@ -113,18 +141,31 @@ fn serve_status<A: Compat>(
         StatusOperation::Fstatat64 => status::fstatat64::<A>(memory, kernel, args),
         StatusOperation::Stat => status::stat::<A>(memory, kernel, args),
         StatusOperation::Stat64 => status::stat64::<A>(memory, kernel, args),
-        StatusOperation::Utimensat => retiming::utimensat::<A>(memory, kernel, args),
     }
 }
 
-#[tactic(auto, unfolding(crate::specs::Choice::served_length))]
+#[tactic(auto, unfolding(crate::specs::Choice::retiming_service))]
+fn serve_retiming<A: Compat>(
+    memory: &mut UserMemory,
+    kernel: &mut Kernel,
+    operation: RetimingOperation,
+    args: &Args,
+) -> Answer<u32>
+    ensures { ServesAs result memory.new kernel.new (retiming_service operation (rules A.KIND A.ALIGN64) args.now memory.old kernel.old) }
+{
+    match operation {
+        RetimingOperation::Utimensat => retiming::utimensat::<A>(memory, kernel, args),
+    }
+}
+
+#[tactic(auto, unfolding(crate::specs::Choice::length_service))]
 fn serve_length<A: Compat>(
     memory: &mut UserMemory,
     kernel: &mut Kernel,
     operation: LengthOperation,
     args: &Args,
 ) -> Answer<u32>
-    ensures { ServesAlways result memory.new kernel.new (served_length operation (rules A.KIND A.ALIGN64) args.now memory.old kernel.old) }
+    ensures { ServesAs result memory.new kernel.new (length_service operation (rules A.KIND A.ALIGN64) args.now memory.old kernel.old) }
 {
     match operation {
         LengthOperation::Fallocate => lengths::fallocate::<A>(memory, kernel, args),
@@ -135,23 +176,31 @@ fn serve_length<A: Compat>(
     }
 }
 
-/// Serves a call on files by its row. Memory may be wanting only for a call that may take some.
-#[tactic(auto, unfolding(crate::specs::Choice::served_file, crate::specs::Choice::file_takes_memory))]
+/// Serves a call on files by its row. Memory may be wanting only where the call's line says so. The region for translation is empty
+/// before and after.
+#[tactic(auto, using(scratch_region::proofs::Counts::none_taken), unfolding(crate::specs::Choice::file_service, crate::specs::Choice::file_need))]
 pub fn serve_file<A: Compat>(
     alloc: Global,
     memory: &mut UserMemory,
     kernel: &mut Kernel,
+    scratch: &mut Scratch,
     operation: FileOperation,
     args: &Args,
 ) -> Answer<u32>
-    ensures { ServesBy (file_takes_memory operation) result memory.new kernel.new (served_file operation (rules A.KIND A.ALIGN64) args.now memory.old kernel.old) }
+    requires empty { IsEmpty scratch.old }
+    requires room { 16384 ≤ scratch.old.capacity }
+    ensures serves { ServesAs result memory.new kernel.new (file_service operation (rules A.KIND A.ALIGN64) args.now memory.old kernel.old) }
+    ensures region { Takes (file_need operation args.now kernel.old) result scratch.old scratch.new }
 {
     match operation {
-        FileOperation::Path(call) => serve_path::<A>(alloc, memory, kernel, call, args),
-        FileOperation::Name(call) => serve_name::<A>(alloc, memory, kernel, call, args),
-        FileOperation::Descriptor(call) => serve_descriptor::<A>(alloc, memory, kernel, call, args),
-        FileOperation::Transfer(call) => serve_transfer::<A>(alloc, memory, kernel, call, args),
+        FileOperation::Paths(call) => serve_path::<A>(alloc, memory, kernel, call, args),
+        FileOperation::Names(call) => serve_name::<A>(alloc, memory, kernel, call, args),
+        FileOperation::Descriptors(call) => serve_descriptor::<A>(alloc, memory, kernel, call, args),
+        FileOperation::Pipes(call) => serve_pipe::<A>(alloc, memory, kernel, call, args),
+        FileOperation::Transfers(call) => serve_transfer::<A>(alloc, memory, kernel, call, args),
+        FileOperation::Listings(call) => serve_listing::<A>(alloc, memory, kernel, call, args),
         FileOperation::Status(call) => serve_status::<A>(memory, kernel, call, args),
-        FileOperation::Length(call) => serve_length::<A>(memory, kernel, call, args),
+        FileOperation::Retiming(call) => serve_retiming::<A>(memory, kernel, call, args),
+        FileOperation::Lengths(call) => serve_length::<A>(memory, kernel, call, args),
     }
 }

@@ -21,7 +21,7 @@ pub fn truncate<A: Compat>(memory: &mut UserMemory, kernel: &mut Kernel, args: &
 {
     let mut room = [0; PATH_MAX];
     let path = fetch_path(memory, args.word(0), &mut room)?;
-    kernel.set_length_at(path, args.signed(1))?;
+    kernel.truncate(path, args.signed(1))?;
     Ok(0)
 }
 
@@ -36,7 +36,7 @@ pub fn ftruncate<A: Compat>(
 ) -> Answer<u32>
     ensures { ServesAlways result memory.new kernel.new (served (ftruncate (rules A.KIND A.ALIGN64) args.now) memory.old kernel.old) }
 {
-    kernel.set_length(args.signed(0), args.signed(1))?;
+    kernel.truncate_open(args.signed(0), args.signed(1))?;
     Ok(0)
 }
 

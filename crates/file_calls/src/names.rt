@@ -5,9 +5,8 @@ ghost use Rattle.layout_laws.specs.Abis.{rules};
 ghost use Rattle.served_calls.specs.Calls.{Serves, ServesAlways, served};
 ghost use Rattle.file_calls.specs.Names.{mkdir, mkdirat, rename, rmdir, unlink, unlinkat};
 
-use crate::paths::AT_FDCWD;
 use abi_registers::Args;
-use kernel_values::Answer;
+use kernel_values::{AT_FDCWD, Answer};
 use layout_laws::Compat;
 use native_kernel::Kernel;
 use served_calls::{PATH_MAX, fetch_path};
@@ -19,7 +18,7 @@ const AT_REMOVEDIR: i64 = 0x200;
 
 /// mkdir(path, mode)
 ///
-/// EFAULT and ENAMETOOLONG of the path; then the refusals of `Kernel::make_dir`.
+/// EFAULT and ENAMETOOLONG of the path; then the refusals of `Kernel::make_directory`.
 #[tactic(auto, unfolding(crate::specs::Names::mkdir))]
 pub fn mkdir<A: Compat>(
     alloc: Global,
@@ -31,13 +30,13 @@ pub fn mkdir<A: Compat>(
 {
     let mut room = [0; PATH_MAX];
     let path = fetch_path(memory, args.word(0), &mut room)?;
-    kernel.make_dir(alloc, AT_FDCWD, path, args.word(1))?;
+    kernel.make_directory(alloc, AT_FDCWD, path, args.word(1))?;
     Ok(0)
 }
 
 /// mkdirat(directory, path, mode)
 ///
-/// EFAULT and ENAMETOOLONG of the path; then the refusals of `Kernel::make_dir`.
+/// EFAULT and ENAMETOOLONG of the path; then the refusals of `Kernel::make_directory`.
 #[tactic(auto, unfolding(crate::specs::Names::mkdirat))]
 pub fn mkdirat<A: Compat>(
     alloc: Global,
@@ -49,7 +48,7 @@ pub fn mkdirat<A: Compat>(
 {
     let mut room = [0; PATH_MAX];
     let path = fetch_path(memory, args.word(1), &mut room)?;
-    kernel.make_dir(alloc, args.signed(0), path, args.word(2))?;
+    kernel.make_directory(alloc, args.signed(0), path, args.word(2))?;
     Ok(0)
 }
 

@@ -6,19 +6,17 @@ ghost use Rattle.served_calls.specs.Calls.{Serves, ServesAlways, served};
 ghost use Rattle.file_calls.specs.Paths.{chdir, getcwd, open_path, open_path_at};
 
 use abi_registers::Args;
-use kernel_values::{Answer, OpenFlags};
+use kernel_values::{AT_FDCWD, Answer, OpenFlags};
 use layout_laws::Compat;
 use native_kernel::Kernel;
 use served_calls::{PATH_MAX, fetch_path, store_bytes};
 use std::alloc::Global;
 use user_memory::UserMemory;
 
-/// `AT_FDCWD` of `include/uapi/linux/fcntl.h`: from the working directory.
-pub(crate) const AT_FDCWD: i64 = -100;
 
 /// open(path, flags, mode)
 ///
-/// EFAULT and ENAMETOOLONG of the path; then the refusals of `Kernel::open_by_path`. Answers the descriptor.
+/// EFAULT and ENAMETOOLONG of the path; then the refusals of `Kernel::open_path`. Answers the descriptor.
 #[tactic(auto, unfolding(crate::specs::Paths::open_path))]
 pub fn open_path<A: Compat>(
     alloc: Global,
@@ -31,13 +29,13 @@ pub fn open_path<A: Compat>(
     let mut room = [0; PATH_MAX];
     let path = fetch_path(memory, args.word(0), &mut room)?;
     let flags = OpenFlags::from_word(A::KIND, args.word(1));
-    let fd = kernel.open_by_path(alloc, AT_FDCWD, path, flags, args.word(2))?;
+    let fd = kernel.open_path(alloc, AT_FDCWD, path, flags, args.word(2))?;
     Ok(fd)
 }
 
 /// openat(directory, path, flags, mode)
 ///
-/// EFAULT and ENAMETOOLONG of the path; then the refusals of `Kernel::open_by_path`. Answers the descriptor.
+/// EFAULT and ENAMETOOLONG of the path; then the refusals of `Kernel::open_path`. Answers the descriptor.
 #[tactic(auto, unfolding(crate::specs::Paths::open_path_at))]
 pub fn open_path_at<A: Compat>(
     alloc: Global,
@@ -50,20 +48,20 @@ pub fn open_path_at<A: Compat>(
     let mut room = [0; PATH_MAX];
     let path = fetch_path(memory, args.word(1), &mut room)?;
     let flags = OpenFlags::from_word(A::KIND, args.word(2));
-    let fd = kernel.open_by_path(alloc, args.signed(0), path, flags, args.word(3))?;
+    let fd = kernel.open_path(alloc, args.signed(0), path, flags, args.word(3))?;
     Ok(fd)
 }
 
 /// chdir(path)
 ///
-/// EFAULT and ENAMETOOLONG of the path; then the refusals of `Kernel::change_dir`.
+/// EFAULT and ENAMETOOLONG of the path; then the refusals of `Kernel::change_directory`.
 #[tactic(auto, unfolding(crate::specs::Paths::chdir))]
 pub fn chdir<A: Compat>(memory: &mut UserMemory, kernel: &mut Kernel, args: &Args) -> Answer<u32>
     ensures { ServesAlways result memory.new kernel.new (served (chdir (rules A.KIND A.ALIGN64) args.now) memory.old kernel.old) }
 {
     let mut room = [0; PATH_MAX];
     let path = fetch_path(memory, args.word(0), &mut room)?;
-    kernel.change_dir(path)?;
+    kernel.change_directory(path)?;
     Ok(0)
 }
 
@@ -80,7 +78,7 @@ pub fn getcwd<A: Compat>(
 ) -> Answer<u32>
     ensures { Serves result memory.new kernel.new (served (getcwd (rules A.KIND A.ALIGN64) args.now) memory.old kernel.old) }
 {
-    let text = kernel.current_dir(alloc, u64::from(args.word(1)))?;
+    let text = kernel.current_directory(alloc, u64::from(args.word(1)))?;
     store_bytes(memory, args.word(0), text.as_slice())?;
     Ok(text.len() as u32)
 }

@@ -6,10 +6,9 @@ ghost use Rattle.layout_laws.specs.Abis.{rules};
 ghost use Rattle.served_calls.specs.Calls.{Delivers, ServesAlways, served};
 ghost use Rattle.file_calls.specs.Status.{fstat, fstat64, fstatat64, gives_stat, gives_stat64, stat, stat64};
 
-use crate::paths::AT_FDCWD;
 use abi_registers::Args;
 use file_layouts::{Stat32, Stat64};
-use kernel_values::Answer;
+use kernel_values::{AT_FDCWD, Answer};
 use layout_laws::Compat;
 use native_kernel::Kernel;
 use served_calls::{PATH_MAX, fetch_path, store_shape};

@@ -2,16 +2,15 @@
 //! Numbers and arguments are those of `arch/x86/entry/syscalls/syscall_32.tbl` and `arch/arm/tools/syscall.tbl`.
 
 ghost use Rattle.std.specs.Prelude.{◌≡◌, ◌<◌, ◌^◌, true, length, Ok};
-ghost use Rattle.kernel_values.specs.Outcome.{OnOutOfMemory};
 ghost use Rattle.user_memory.specs.Memory.{is_writable};
-ghost use Rattle.file_store.specs.Transfers.{MovesBytes};
+ghost use Rattle.file_store.specs.Transfers.{moves_bytes};
 ghost use Rattle.layout_laws.specs.Abis.{rules};
-ghost use Rattle.served_calls.specs.Calls.{Delivers, Serves, ServesAlways, served};
+ghost use Rattle.served_calls.specs.Calls.{Delivers, Serves, ServesAlways, ServesBy, served};
 ghost use Rattle.file_calls.specs.Transfers.{gives_bytes, gives_position, halves, llseek, lseek, pread64, pwrite64, read, write};
 
 use abi_registers::Args;
 use file_layouts::Position64;
-use kernel_values::{Answer, Errno};
+use kernel_values::{Answer, Errno, MOST_NARROW};
 use layout_laws::Compat;
 use native_kernel::{Kernel, Place};
 use served_calls::{fetch_data, low_word, room, store_bytes, store_shape, transfer_count};
@@ -40,8 +39,7 @@ pub fn read<A: Compat>(
     kernel: &mut Kernel,
     args: &Args,
 ) -> Answer<u32>
-    ensures serves { Serves result memory.new kernel.new (served (read (rules A.KIND A.ALIGN64) args.now) memory.old kernel.old) }
-    ensures moves { OnOutOfMemory result (MovesBytes (read (rules A.KIND A.ALIGN64) args.now memory.old kernel.old).operation.0) }
+    ensures { ServesBy (moves_bytes (read (rules A.KIND A.ALIGN64) args.now memory.old kernel.old).operation.0) result memory.new kernel.new (served (read (rules A.KIND A.ALIGN64) args.now) memory.old kernel.old) }
 {
     let count = transfer_count(args.word(2));
     let most = room(memory, args.word(1), count);
@@ -65,8 +63,7 @@ pub fn pread64<A: Compat>(
     kernel: &mut Kernel,
     args: &Args,
 ) -> Answer<u32>
-    ensures serves { Serves result memory.new kernel.new (served (pread64 (rules A.KIND A.ALIGN64) args.now) memory.old kernel.old) }
-    ensures moves { OnOutOfMemory result (MovesBytes (pread64 (rules A.KIND A.ALIGN64) args.now memory.old kernel.old).operation.0) }
+    ensures { ServesBy (moves_bytes (pread64 (rules A.KIND A.ALIGN64) args.now memory.old kernel.old).operation.0) result memory.new kernel.new (served (pread64 (rules A.KIND A.ALIGN64) args.now) memory.old kernel.old) }
 {
     let count = transfer_count(args.word(2));
     let most = room(memory, args.word(1), count);
@@ -128,7 +125,7 @@ pub fn pwrite64<A: Compat>(
 fn position_word(memory: &mut UserMemory, position: i64) -> Result<u32, Errno>
     ensures { Delivers result memory.new (gives_position position memory.old) }
 {
-    if position > 0x7fff_ffff {
+    if position > MOST_NARROW as i64 {
         return Err(Errno::Overflow);
     }
     Ok(low_word(position.unsigned_abs()))

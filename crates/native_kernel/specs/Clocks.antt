@@ -42,10 +42,10 @@ abbrev pub sleep_time : ℕ → Bool → ℕ → ℕ
 sleep_time now absolute wanted = if absolute then wanted - now else wanted
 
 -- clock_gettime and clock_getres ask a clock by its number
-abbrev pub clock : ClockState → ℤ → Result ℕ Errno × ClockState
-clock c id = settled c (do
+abbrev pub clock : ClockState → ℤ → Result ℕ Errno
+clock c id = do
   named ← clock_named id
-  Ok (reading c named, c))
+  Ok (reading c named)
 
 -- the real clock alone can be set
 abbrev pub set_clock : ClockState → Bool → ℤ → TimeSpec → Result ⊤ Errno × ClockState

@@ -6,6 +6,7 @@ use Rattle.kernel_values.specs.declared.times.Limit.{Limit}
 use Rattle.kernel_values.specs.declared.items.StateItem.{StateItem}
 use Rattle.kernel_values.specs.declared.items.StateItem.TheVariants as item
 use Rattle.file_store.specs.Items.{file_items, files_left}
+use Rattle.native_kernel.specs.Limits.{starting_limit}
 use Rattle.native_kernel.specs.declared.items.StateCursor.{StateCursor}
 use Rattle.native_kernel.specs.declared.items.StateCursor.TheVariants as cursor
 use Rattle.native_kernel.specs.declared.state.Kernel.{Kernel}
@@ -14,14 +15,14 @@ abbrev pub ended_items : Option End → List StateItem
 ended_items None = []
 ended_items (Some end) = item.Ended end ∷ []
 
--- whether a limit is as at the start: infinity, but 1,024 of 4,096 descriptors
+-- whether a limit is as at the start
 abbrev pub is_starting : ℕ → Limit → Bool
-is_starting resource l = if resource == 7 then (l.soft == 1024) && (l.hard == 4096) else (l.soft == 2 ^ 64 - 1) && (l.hard == 2 ^ 64 - 1)
+is_starting resource l = (l.soft == (starting_limit resource).soft) && (l.hard == (starting_limit resource).hard)
 
 -- each limit that isn't as at the start, the first of them with this number
 unfoldable pub limit_items : ℕ → List Limit → List StateItem
 limit_items resource [] = []
-limit_items resource (l ∷ ls) = if is_starting resource l then limit_items (resource + 1) ls else item.Limit resource l ∷ limit_items (resource + 1) ls
+limit_items resource (l ∷ ls) = if is_starting resource l then limit_items (resource + 1) ls else item.Limit (record { resource = resource; limit = l }) ∷ limit_items (resource + 1) ls
 
 -- what is left of a part is followed by all of the later parts
 abbrev pub limits_left : Kernel → ℕ → List StateItem
@@ -32,7 +33,7 @@ ended_left k = ended_items k.ended ++ limits_left k 0
 
 -- the state, item by item, in the order of a report
 unfoldable pub items : Kernel → List StateItem
-items k = item.Clock k.clocks.real k.clocks.monotonic ∷ ended_left k
+items k = item.Clock (record { real = k.clocks.real; monotonic = k.clocks.monotonic }) ∷ ended_left k
 
 -- the items that are left at a cursor
 unfoldable pub left : Kernel → StateCursor → List StateItem

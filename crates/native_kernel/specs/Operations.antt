@@ -1,5 +1,5 @@
 -- One definition for each call of the kernel: its answer, and the state after it. A row opens none, but the seek that ends a listing.
-use Rattle.std.specs.Prelude.{Bool, ℕ, ℤ, negsuc, List, Option, Some, None, Result, ⊤}
+use Rattle.std.specs.Prelude.{Bool, ℕ, ℤ, List, Option, Some, None, Result, ⊤}
 use Rattle.kernel_values.specs.declared.errno.Errno.{Errno}
 use Rattle.kernel_values.specs.declared.status.FileTimes.{FileTimes}
 use Rattle.kernel_values.specs.declared.times.Limit.{Limit}
@@ -10,6 +10,7 @@ use Rattle.kernel_values.specs.declared.listing.DirEntry.{DirEntry}
 use Rattle.kernel_values.specs.declared.locks.Lock.{Lock}
 use Rattle.kernel_values.specs.declared.status.Stat.{Stat}
 use Rattle.kernel_values.specs.declared.open_flags.OpenFlags.{OpenFlags}
+use Rattle.kernel_values.specs.Bounds.{at_fdcwd}
 use Rattle.kernel_values.specs.Times.{time_of}
 use Rattle.file_store.specs.declared.state.Maker.{Maker}
 use Rattle.file_store.specs.declared.state.Place.{Place}
@@ -40,8 +41,8 @@ use Rattle.native_kernel.specs.Usages as usages
 use Rattle.native_kernel.specs.Limits.{soft_limit, starting_limits}
 use Rattle.native_kernel.specs.State.{on_clocks, on_files, on_limits}
 
-unfoldable pub clock : Kernel → ℤ → Result ℕ Errno × Kernel
-clock k id = on_clocks k (clocks.clock k.clocks id)
+unfoldable pub clock : Kernel → ℤ → Result ℕ Errno
+clock k id = clocks.clock k.clocks id
 
 unfoldable pub set_clock : Kernel → ℤ → TimeSpec → Result ⊤ Errno × Kernel
 set_clock k id time = on_clocks k (clocks.set_clock k.clocks k.process.privileged id time)
@@ -49,8 +50,8 @@ set_clock k id time = on_clocks k (clocks.set_clock k.clocks k.process.privilege
 unfoldable pub sleep : Kernel → ℤ → Bool → TimeSpec → Result Slept Errno × Kernel
 sleep k id absolute time = on_clocks k (clocks.sleep k.clocks id absolute time)
 
-unfoldable pub limit : Kernel → ℕ → Result Limit Errno × Kernel
-limit k resource = on_limits k (limits.limit k.limits resource)
+unfoldable pub limit : Kernel → ℕ → Result Limit Errno
+limit k resource = limits.limit k.limits resource
 
 unfoldable pub set_limit : Kernel → ℕ → Limit → Result ⊤ Errno × Kernel
 set_limit k resource new = on_limits k (limits.set_limit k.limits k.process.privileged resource new)
@@ -59,12 +60,16 @@ set_limit k resource new = on_limits k (limits.set_limit k.limits k.process.priv
 unfoldable pub advanced : Kernel → ℕ → Kernel
 advanced k nanos = record k { clocks = clocks.passed k.clocks nanos }
 
-unfoldable pub usage : Kernel → ℤ → Result Usage Errno × Kernel
-usage k who = (usages.usage k.process.usage who, k)
+unfoldable pub usage : Kernel → ℤ → Result Usage Errno
+usage k who = usages.usage k.process.usage who
 
 -- the numbers of the process, its user and its group
 unfoldable pub credentials : Kernel → Credentials
 credentials k = record { pid = k.process.pid; uid = k.process.uid; gid = k.process.gid }
+
+-- how the process ended, if it has
+abbrev pub end_of : Kernel → Option End
+end_of k = k.ended
 
 -- a process ends: its descriptors are closed, ascending
 unfoldable pub finish : Kernel → End → Kernel
@@ -106,14 +111,14 @@ duplicate_to k fd new flags three = on_files k (descriptors.duplicate_to k.files
 unfoldable pub pipe : Kernel → ℕ → Result (ℕ × ℕ) Errno × Kernel
 pipe k flags = on_files k (piping.pipe k.files (most_descriptors k) flags)
 
-unfoldable pub fd_flags : Kernel → ℤ → Result ℕ Errno × Kernel
-fd_flags k fd = on_files k (descriptors.fd_flags k.files fd)
+unfoldable pub fd_flags : Kernel → ℤ → Result ℕ Errno
+fd_flags k fd = flags_of.fd_flags k.files fd
 
 unfoldable pub set_fd_flags : Kernel → ℤ → ℕ → Result ⊤ Errno × Kernel
 set_fd_flags k fd word = on_files k (descriptors.set_fd_flags k.files fd word)
 
-unfoldable pub open_flags : Kernel → ℤ → Result OpenFlags Errno × Kernel
-open_flags k fd = on_files k (descriptors.open_flags k.files fd)
+unfoldable pub open_flags : Kernel → ℤ → Result OpenFlags Errno
+open_flags k fd = flags_of.open_flags k.files fd
 
 unfoldable pub set_open_flags : Kernel → ℤ → OpenFlags → Result ⊤ Errno × Kernel
 set_open_flags k fd flags = on_files k (descriptors.set_open_flags k.files fd flags)
@@ -124,14 +129,14 @@ status k fd = status_of.status k.files (maker k) fd
 unfoldable pub status_at : Kernel → ℤ → List ℕ → ℤ → Result Stat Errno
 status_at k from path flags = status_of.status_at k.files (maker k) from path flags
 
-unfoldable pub make_dir : Kernel → ℤ → List ℕ → ℕ → Result ⊤ Errno × Kernel
-make_dir k from path mode = on_files k (new_directory.make_directory k.files (maker k) from path mode)
+unfoldable pub make_directory : Kernel → ℤ → List ℕ → ℕ → Result ⊤ Errno × Kernel
+make_directory k from path mode = on_files k (new_directory.make_directory k.files (maker k) from path mode)
 
 unfoldable pub remove : Kernel → ℤ → List ℕ → ℤ → Result ⊤ Errno × Kernel
 remove k from path flags = on_files k (removing.remove k.files (time_of k.clocks.real) from path flags)
 
-unfoldable pub rename_path : Kernel → List ℕ → List ℕ → Result ⊤ Errno × Kernel
-rename_path k old new = on_files k (renaming.rename k.files (time_of k.clocks.real) old new)
+unfoldable pub rename : Kernel → List ℕ → List ℕ → Result ⊤ Errno × Kernel
+rename k old new = on_files k (renaming.rename k.files (time_of k.clocks.real) old new)
 
 unfoldable pub listing : Kernel → ℤ → ℕ → Result (List DirEntry) Errno
 listing k fd position = listing_of.listing k.files fd position
@@ -157,11 +162,11 @@ find_lock k fd wanted = locks.find_lock k.files fd wanted
 unfoldable pub set_lock : Kernel → ℤ → Lock → Result ⊤ Errno × Kernel
 set_lock k fd wanted = on_files k (locks.set_lock k.files fd wanted)
 
-unfoldable pub change_dir : Kernel → List ℕ → Result ⊤ Errno × Kernel
-change_dir k path = on_files k (working.change_directory k.files (negsuc 99) path)
+unfoldable pub change_directory : Kernel → List ℕ → Result ⊤ Errno × Kernel
+change_directory k path = on_files k (working.change_directory k.files at_fdcwd path)
 
-unfoldable pub current_dir : Kernel → ℕ → Result (List ℕ) Errno
-current_dir k size = working.current_directory k.files size
+unfoldable pub current_directory : Kernel → ℕ → Result (List ℕ) Errno
+current_directory k size = working.current_directory k.files size
 
 -- what lines of the image make
 unfoldable pub image_directory : Kernel → List ℕ → ℕ → Result ⊤ Errno × Kernel
@@ -193,6 +198,15 @@ started i = record {
 unfoldable pub with_clocks : Kernel → ℕ → ℕ → Kernel
 with_clocks k real monotonic = record k { clocks = record { real = real; monotonic = monotonic } }
 
--- the same for another process
-unfoldable pub with_process : Kernel → Process → Kernel
-with_process k process = record k { process = process }
+-- the same for the process of another owner; what it has used stays
+unfoldable pub with_owner : Kernel → Credentials → Bool → Kernel
+with_owner k owner privileged = record k { process = record k.process {
+  pid = owner.pid;
+  uid = owner.uid;
+  gid = owner.gid;
+  privileged = privileged;
+} }
+
+-- the same for a process that has used something else
+unfoldable pub with_usage : Kernel → Usage → Kernel
+with_usage k used = record k { process = record k.process { usage = used } }

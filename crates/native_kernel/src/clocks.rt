@@ -73,8 +73,8 @@ impl Clocks {
     }
 
     /// The nanoseconds of a clock. EINVAL for a number other than 0 and 1.
-    pub fn clock(&self, id: i64) -> Answer<u64>
-        ensures { GivesAlways (λ n. n) result self.now (clock self.now id) }
+    pub fn clock(&self, id: i64) -> Result<u64, Errno>
+        ensures { Tells result (clock self.now id) }
     {
         match clock_named(id)? {
             ClockId::Real => Ok(self.real),

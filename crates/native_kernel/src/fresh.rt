@@ -2,18 +2,13 @@
 
 ghost use Rattle.std.specs.Prelude.{◌≡◌, ◌<◌, ◌^◌, IfOk};
 ghost use Rattle.native_kernel.specs.Limits.{starting_limits};
-ghost use Rattle.native_kernel.specs.Operations.{started, with_clocks, with_process};
+ghost use Rattle.native_kernel.specs.Operations.{started, with_clocks, with_owner, with_usage};
 
-use crate::limits::OPEN_FILES;
+use crate::limits::{FEW_OPEN_FILES, OPEN_FILES, UNLIMITED};
 use crate::state::{Clocks, Identity, Kernel, Limits, Process};
 use file_store::Files;
-use kernel_values::{Limit, OutOfMemory};
+use kernel_values::{Credentials, OutOfMemory, Usage};
 use std::alloc::Global;
-
-const INFINITY: Limit = Limit {
-    soft: u64::MAX,
-    hard: u64::MAX,
-};
 
 impl Limits {
     /// The limits of a new process: infinity, but 1,024 of 4,096 descriptors.
@@ -21,11 +16,8 @@ impl Limits {
     pub fn starting() -> Limits
         ensures { result ≡ starting_limits }
     {
-        let mut held = [INFINITY; 16];
-        held[OPEN_FILES as usize] = Limit {
-            soft: 1_024,
-            hard: 4_096,
-        };
+        let mut held = [UNLIMITED; 16];
+        held[OPEN_FILES as usize] = FEW_OPEN_FILES;
         Limits { held }
     }
 }
@@ -66,11 +58,25 @@ impl Kernel {
         self.clocks = Clocks { real, monotonic };
     }
 
-    /// Sets whose process it is, and what it has used, as the image says.
-    #[tactic(auto, unfolding(crate::specs::Operations::with_process))]
-    pub fn start_process(&mut self, process: &Process)
-        ensures { self.new ≡ with_process self.old process.now }
+    /// Sets whose process it is, and whether it has the privilege, as the image says. What it has used stays.
+    #[tactic(auto, unfolding(crate::specs::Operations::with_owner))]
+    pub fn start_owner(&mut self, owner: &Credentials, privileged: bool)
+        ensures { self.new ≡ with_owner self.old owner.now privileged }
     {
-        self.process = *process;
+        self.process = Process {
+            pid: owner.pid,
+            uid: owner.uid,
+            gid: owner.gid,
+            privileged,
+            usage: self.process.usage,
+        };
+    }
+
+    /// Sets what the process has used, as the image says. Whose it is stays.
+    #[tactic(auto, unfolding(crate::specs::Operations::with_usage))]
+    pub fn start_usage(&mut self, usage: &Usage)
+        ensures { self.new ≡ with_usage self.old usage.now }
+    {
+        self.process.usage = *usage;
     }
 }

@@ -5,10 +5,10 @@ ghost use Rattle.kernel_values.specs.declared.items.StateItem.TheVariants as ite
 ghost use Rattle.kernel_values.specs.Items.{TellsFirst};
 ghost use Rattle.native_kernel.specs.Items.{TellsNext, is_starting, items, left, limit_items};
 
-use crate::limits::OPEN_FILES;
+use crate::limits::starting_limit;
 use crate::state::Kernel;
 use file_store::FileCursor;
-use kernel_values::{Limit, OutOfMemory, StateItem};
+use kernel_values::{ClockItem, Limit, LimitItem, OutOfMemory, StateItem};
 use std::alloc::Global;
 
 /// Where the telling of a state is: a part of it, and a place in that part.
@@ -28,18 +28,15 @@ pub enum StateCursor {
 fn is_starting(resource: u32, limit: &Limit) -> bool
     ensures { result ≡ is_starting resource limit.now }
 {
-    if resource == OPEN_FILES {
-        limit.soft == 1_024 && limit.hard == 4_096
-    } else {
-        limit.soft == u64::MAX && limit.hard == u64::MAX
-    }
+    let starting = starting_limit(resource);
+    limit.soft == starting.soft && limit.hard == starting.hard
 }
 
 /// The first limit from a number on that isn't as at the start, and its number.
 #[tactic(auto, using(crate::proofs::LimitItems::limit_end, crate::proofs::LimitItems::limit_here, crate::proofs::LimitItems::limit_next))]
 fn changed_limit(held: &[Limit; 16], first: u32) -> Option<(u32, Limit)>
     ensures next { MatchOption result (limit_items first (drop first held.now) ≡ [])
-        (λ l. limit_items first (drop first held.now) ≡ item.Limit l.0 l.1 ∷ limit_items (l.0 + 1) (drop (l.0 + 1) held.now)) }
+        (λ l. limit_items first (drop first held.now) ≡ item.Limit (record { resource = l.0; limit = l.1 }) ∷ limit_items (l.0 + 1) (drop (l.0 + 1) held.now)) }
     ensures small { IfSome result (λ l. l.0 < 16) }
 {
     for resource in first..16 {
@@ -79,7 +76,7 @@ impl Kernel {
     {
         match changed_limit(&self.limits.held, first) {
             Some((resource, limit)) => {
-                let item = StateItem::Limit { resource, limit };
+                let item = StateItem::Limit(LimitItem { resource, limit });
                 Ok(Some((item, StateCursor::Limits(resource + 1))))
             }
             None => self.file_item(alloc, self.files.first_item()),
@@ -91,7 +88,7 @@ impl Kernel {
         ensures { IfOk result (λ told. TellsFirst (left self.now) StateCursor.Ended told) }
     {
         match self.ended {
-            Some(end) => Ok(Some((StateItem::Ended { end }, StateCursor::Limits(0)))),
+            Some(end) => Ok(Some((StateItem::Ended(end), StateCursor::Limits(0)))),
             None => self.limit_item(alloc, 0),
         }
     }
@@ -101,7 +98,7 @@ impl Kernel {
         ensures { TellsFirst (left self.now) StateCursor.Clocks result }
     {
         let (real, monotonic) = (self.clocks.real, self.clocks.monotonic);
-        let item = StateItem::Clock { real, monotonic };
+        let item = StateItem::Clock(ClockItem { real, monotonic });
         Some((item, StateCursor::Ended))
     }
 

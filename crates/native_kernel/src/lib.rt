@@ -2,18 +2,11 @@
 #![tactic(auto)]
 
 mod clocks;
-mod directories;
-mod files;
 mod fresh;
-mod identity;
 mod items;
-mod kernel;
-mod lengths;
 mod limits;
-mod locks;
-mod pipes;
+mod operations;
 mod state;
-mod status;
 
 pub use clocks::{CLOCK_END, CLOCK_MONOTONIC, CLOCK_REALTIME, ClockId};
 pub use file_store::Place;

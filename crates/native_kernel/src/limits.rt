@@ -1,8 +1,8 @@
 //! The limits of a process.
 
 ghost use Rattle.std.specs.Prelude.{◌≡◌};
-ghost use Rattle.kernel_values.specs.Outcome.{GivesAlways};
-ghost use Rattle.native_kernel.specs.Limits.{limit, set_limit, soft_limit};
+ghost use Rattle.kernel_values.specs.Outcome.{GivesAlways, Tells};
+ghost use Rattle.native_kernel.specs.Limits.{limit, set_limit, soft_limit, starting_limit};
 
 use crate::state::Limits;
 use kernel_values::{Answer, Errno, KernelFault, Limit};
@@ -11,15 +11,36 @@ use kernel_values::{Answer, Errno, KernelFault, Limit};
 pub const OPEN_FILES: u32 = 7;
 /// The greatest limit of descriptors.
 pub const MOST_OPEN_FILES: u64 = 0x10_0000;
+/// No limit: `RLIM64_INFINITY` of `include/uapi/linux/resource.h`, twice.
+pub(crate) const UNLIMITED: Limit = Limit {
+    soft: u64::MAX,
+    hard: u64::MAX,
+};
+/// How many descriptors a new process may have.
+pub(crate) const FEW_OPEN_FILES: Limit = Limit {
+    soft: 1_024,
+    hard: 4_096,
+};
+
+/// The limit of a resource at the start.
+pub(crate) fn starting_limit(resource: u32) -> Limit
+    ensures { result ≡ starting_limit resource }
+{
+    if resource == OPEN_FILES {
+        FEW_OPEN_FILES
+    } else {
+        UNLIMITED
+    }
+}
 
 impl Limits {
     /// The limit of a number. EINVAL for a number above 15.
-    pub fn limit(&self, resource: u32) -> Answer<Limit>
-        ensures { GivesAlways (λ l. l) result self.now (limit self.now resource) }
+    pub fn limit(&self, resource: u32) -> Result<Limit, Errno>
+        ensures { Tells result (limit self.now resource) }
     {
         match self.held.get(resource as usize) {
             Some(held) => Ok(*held),
-            None => Err(KernelFault::Errno(Errno::InvalidArgument)),
+            None => Err(Errno::InvalidArgument),
         }
     }
 

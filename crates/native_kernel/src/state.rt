@@ -77,11 +77,11 @@ impl Model for Limits {
 /// The state of the modelled kernel, for one process.
 #[derive(Debug, Drop)]
 pub struct Kernel {
-    pub process: Process,
-    pub clocks: Clocks,
-    pub limits: Limits,
+    pub(crate) process: Process,
+    pub(crate) clocks: Clocks,
+    pub(crate) limits: Limits,
     /// Files, directories, pipes, locks, open files and descriptors.
-    pub files: Files,
+    pub(crate) files: Files,
     /// How the process ended, if it has.
-    pub ended: Option<End>,
+    pub(crate) ended: Option<End>,
 }

@@ -1,13 +1,13 @@
-//! The calls of the kernel on files and descriptors: each is its part's call on that part of the state.
+//! The calls of the kernel on files and descriptors.
 
-ghost use Rattle.std.specs.Prelude.{◌≡◌, ◌≤◌, ◌^◌, length, IfOk};
-ghost use Rattle.kernel_values.specs.Outcome.{Gives, GivesAlways, GivesTold, OnOutOfMemory};
-ghost use Rattle.file_store.specs.Transfers.{MovesBytes};
-ghost use Rattle.native_kernel.specs.Operations.{can_use, change_dir, close, current_dir, duplicate, duplicate_to, fd_flags, image_bytes, image_directory, image_file, maker, most_descriptors, open_flags, open_path, read, seek, set_fd_flags, set_open_flags, write};
+ghost use Rattle.std.specs.Prelude.{◌≡◌, ◌≤◌, true, length, IfOk};
+ghost use Rattle.kernel_values.specs.Outcome.{Gives, GivesAlways, GivesTold, OnOutOfMemory, Tells};
+ghost use Rattle.file_store.specs.Transfers.{moves_bytes};
+ghost use Rattle.native_kernel.specs.Operations.{can_use, change_directory, close, current_directory, duplicate, duplicate_to, fd_flags, image_bytes, image_directory, image_file, maker, most_descriptors, open_flags, open_path, read, seek, set_fd_flags, set_open_flags, write};
 
 use crate::state::Kernel;
-use file_store::{Maker, Place, WORKING};
-use kernel_values::{Answer, ByteList, OpenFlags, TimeSpec};
+use file_store::{Maker, Place};
+use kernel_values::{AT_FDCWD, Answer, ByteList, Errno, OpenFlags, TimeSpec};
 use std::alloc::Global;
 
 impl Kernel {
@@ -43,7 +43,7 @@ impl Kernel {
     /// descriptor. In this order: EMFILE, ENFILE, EINVAL for `O_CREAT` with `O_DIRECTORY`, what refuses the path, ENOENT,
     /// EISDIR for a file to be made behind a slash, EEXIST, EISDIR, ENOTDIR, EOVERFLOW.
     #[tactic(auto, unfolding(crate::specs::Operations::open_path))]
-    pub fn open_by_path(
+    pub fn open_path(
         &mut self,
         alloc: Global,
         from: i64,
@@ -56,7 +56,7 @@ impl Kernel {
         let limit = self.most_descriptors();
         let maker = self.maker();
         self.files
-            .open_by_path(alloc, limit, &maker, from, path, flags, mode)
+            .open_path(alloc, limit, &maker, from, path, flags, mode)
     }
 
     /// Closes a descriptor. EBADF. It takes no memory.
@@ -82,7 +82,7 @@ impl Kernel {
         ensures given { Gives (λ v. v) result self.new (read self.old fd wanted room place) }
         ensures count { IfOk result (λ v. length v ≤ wanted) }
         ensures space { IfOk result (λ v. length v ≤ room) }
-        ensures moves { OnOutOfMemory result (MovesBytes (read self.old fd wanted room place).0) }
+        ensures moves { OnOutOfMemory result (moves_bytes (read self.old fd wanted room place).0 ≡ true) }
     {
         let bytes = self.files.read(alloc, fd, wanted, room, place)?;
         Ok(ByteList::from_vec(bytes))
@@ -140,8 +140,8 @@ impl Kernel {
 
     /// The flags of a descriptor: `FD_CLOEXEC`, 1, or 0. EBADF. It takes no memory.
     #[tactic(auto, unfolding(crate::specs::Operations::fd_flags))]
-    pub fn fd_flags(&self, fd: i64) -> Answer<u32>
-        ensures { GivesAlways (λ n. n) result self.now (fd_flags self.now fd) }
+    pub fn fd_flags(&self, fd: i64) -> Result<u32, Errno>
+        ensures { Tells result (fd_flags self.now fd) }
     {
         self.files.fd_flags(fd)
     }
@@ -156,8 +156,8 @@ impl Kernel {
 
     /// The flags of a descriptor's open file. EBADF. It takes no memory.
     #[tactic(auto, unfolding(crate::specs::Operations::open_flags))]
-    pub fn open_flags(&self, fd: i64) -> Answer<OpenFlags>
-        ensures { GivesAlways (λ f. f) result self.now (open_flags self.now fd) }
+    pub fn open_flags(&self, fd: i64) -> Result<OpenFlags, Errno>
+        ensures { Tells result (open_flags self.now fd) }
     {
         self.files.open_flags(fd)
     }
@@ -171,17 +171,17 @@ impl Kernel {
     }
 
     /// Changes the working directory. What refuses the path; ENOTDIR for a file. It takes no memory.
-    #[tactic(auto, unfolding(crate::specs::Operations::change_dir))]
-    pub fn change_dir(&mut self, path: &[u8]) -> Answer<()>
-        ensures { GivesAlways (λ _. tt) result self.new (change_dir self.old path.now) }
+    #[tactic(auto, unfolding(crate::specs::Operations::change_directory))]
+    pub fn change_directory(&mut self, path: &[u8]) -> Answer<()>
+        ensures { GivesAlways (λ _. tt) result self.new (change_directory self.old path.now) }
     {
-        self.files.change_directory(WORKING, path)
+        self.files.change_directory(AT_FDCWD, path)
     }
 
     /// The path of the working directory with a zero at its end. ENAMETOOLONG above 4,096 bytes, ERANGE above `size`.
-    #[tactic(auto, unfolding(crate::specs::Operations::current_dir))]
-    pub fn current_dir(&self, alloc: Global, size: u64) -> Answer<ByteList>
-        ensures told { GivesTold (λ v. v) result (current_dir self.now size) }
+    #[tactic(auto, unfolding(crate::specs::Operations::current_directory))]
+    pub fn current_directory(&self, alloc: Global, size: u64) -> Answer<ByteList>
+        ensures told { GivesTold (λ v. v) result (current_directory self.now size) }
         ensures length { IfOk result (λ v. length v ≤ 4096) }
     {
         let text = self.files.current_directory(alloc, size)?;

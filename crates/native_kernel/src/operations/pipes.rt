@@ -1,4 +1,4 @@
-//! The call of the kernel that makes a pipe: its part's call on that part of the state.
+//! The call of the kernel that makes a pipe.
 
 ghost use Rattle.kernel_values.specs.Outcome.{Foretells, Gives};
 ghost use Rattle.native_kernel.specs.Operations.{pipe};

@@ -1,4 +1,4 @@
-//! The calls of the kernel that set the length of a file, and its times: each is its part's call on that part of the state.
+//! The calls of the kernel that set the length of a file, and its times.
 
 ghost use Rattle.std.specs.Prelude.{◌≡◌, option_map};
 ghost use Rattle.kernel_values.specs.Outcome.{GivesAlways};
@@ -11,21 +11,21 @@ impl Kernel {
     /// Gives the file of a path, from the working directory on, another length: cut, or with zeros behind its bytes. EINVAL
     /// for a length below 0; EFBIG above 2^40; what refuses the path; EISDIR. It takes no memory.
     #[tactic(auto, unfolding(crate::specs::Operations::truncate))]
-    pub fn set_length_at(&mut self, path: &[u8], wanted: i64) -> Answer<()>
+    pub fn truncate(&mut self, path: &[u8], wanted: i64) -> Answer<()>
         ensures { GivesAlways (λ _. tt) result self.new (truncate self.old path.now wanted) }
     {
         let now = TimeSpec::of_nanoseconds(self.clocks.real());
-        self.files.set_length_at(now, path, wanted)
+        self.files.truncate(now, path, wanted)
     }
 
     /// Gives an open file another length. EBADF; EINVAL for a length below 0; EFBIG above 2^40; EINVAL for what is no file
     /// or isn't open for writing. It takes no memory.
     #[tactic(auto, unfolding(crate::specs::Operations::truncate_open))]
-    pub fn set_length(&mut self, fd: i64, wanted: i64) -> Answer<()>
+    pub fn truncate_open(&mut self, fd: i64, wanted: i64) -> Answer<()>
         ensures { GivesAlways (λ _. tt) result self.new (truncate_open self.old fd wanted) }
     {
         let now = TimeSpec::of_nanoseconds(self.clocks.real());
-        self.files.set_length(now, fd, wanted)
+        self.files.truncate_open(now, fd, wanted)
     }
 
     /// Makes an open file reach up to `offset + count` at least, or with mode 1 (`FALLOC_FL_KEEP_SIZE`) changes nothing.

@@ -1,4 +1,4 @@
-//! The calls of the kernel on locks of files: each is its part's call on that part of the state.
+//! The calls of the kernel on locks of files.
 
 ghost use Rattle.std.specs.Prelude.{◌≡◌};
 ghost use Rattle.kernel_values.specs.Outcome.{Gives, Tells};

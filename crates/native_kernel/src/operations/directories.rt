@@ -1,10 +1,9 @@
-//! The calls of the kernel that make, remove, rename and list the names in directories: each is its part's call on that
-//! part of the state.
+//! The calls of the kernel that make, remove, rename and list the names in directories.
 
 ghost use Rattle.std.specs.Prelude.{◌≡◌, ◌<◌, IfOk, IfSome};
 ghost use Rattle.kernel_values.specs.Outcome.{Gives, GivesAlways, Tells};
 ghost use Rattle.file_store.specs.Listing.{TellsEntry};
-ghost use Rattle.native_kernel.specs.Operations.{listing, make_dir, position, remove, rename_path};
+ghost use Rattle.native_kernel.specs.Operations.{listing, make_directory, position, remove, rename};
 
 use crate::state::Kernel;
 use kernel_values::{Answer, DirEntry, Errno, TimeSpec};
@@ -13,9 +12,9 @@ use std::alloc::Global;
 impl Kernel {
     /// Makes a directory, at a path from the directory of descriptor `from` or from the working directory (-100). ENFILE;
     /// what refuses the path; EEXIST.
-    #[tactic(auto, unfolding(crate::specs::Operations::make_dir))]
-    pub fn make_dir(&mut self, alloc: Global, from: i64, path: &[u8], mode: u32) -> Answer<()>
-        ensures { Gives (λ _. tt) result self.new (make_dir self.old from path.now mode) }
+    #[tactic(auto, unfolding(crate::specs::Operations::make_directory))]
+    pub fn make_directory(&mut self, alloc: Global, from: i64, path: &[u8], mode: u32) -> Answer<()>
+        ensures { Gives (λ _. tt) result self.new (make_directory self.old from path.now mode) }
     {
         let maker = self.maker();
         self.files.make_directory(alloc, &maker, from, path, mode)
@@ -36,9 +35,9 @@ impl Kernel {
     /// `.`, `..` and the root; ENOTDIR and ENOENT of the old name, ENOTDIR of the new one; ENOTDIR for a file and a missing
     /// name with a slash at its end; EINVAL for a directory into itself; ENOTDIR, ENOTEMPTY, EBUSY and EISDIR by what has the
     /// new name.
-    #[tactic(auto, unfolding(crate::specs::Operations::rename_path))]
+    #[tactic(auto, unfolding(crate::specs::Operations::rename))]
     pub fn rename(&mut self, alloc: Global, old: &[u8], new: &[u8]) -> Answer<()>
-        ensures { Gives (λ _. tt) result self.new (rename_path self.old old.now new.now) }
+        ensures { Gives (λ _. tt) result self.new (rename self.old old.now new.now) }
     {
         let now = TimeSpec::of_nanoseconds(self.clocks.real());
         self.files.rename(alloc, now, old, new)

@@ -1,4 +1,4 @@
-//! The calls of the kernel that tell the status of a file: each is its part's call on that part of the state.
+//! The calls of the kernel that tell the status of a file.
 
 ghost use Rattle.std.specs.Prelude.{◌≡◌};
 ghost use Rattle.kernel_values.specs.Outcome.{Tells};

@@ -1,11 +1,11 @@
 //! Whose process it is, what it has used, and how it ended.
 
 ghost use Rattle.std.specs.Prelude.{◌≡◌};
-ghost use Rattle.kernel_values.specs.Outcome.{GivesAlways};
-ghost use Rattle.native_kernel.specs.Operations.{credentials, finish, usage};
+ghost use Rattle.kernel_values.specs.Outcome.{Tells};
+ghost use Rattle.native_kernel.specs.Operations.{credentials, end_of, finish, usage};
 
 use crate::state::Kernel;
-use kernel_values::{Answer, Credentials, End, Errno, KernelFault, Usage};
+use kernel_values::{Credentials, End, Errno, Usage};
 
 impl Kernel {
     /// The numbers of the process, its user and its group.
@@ -24,19 +24,19 @@ impl Kernel {
     /// What the process (0), its thread (1) or its children (-1), of which there are none, have used.
     /// EINVAL for any other number.
     #[tactic(auto, unfolding(crate::specs::Operations::usage))]
-    pub fn usage(&self, who: i64) -> Answer<Usage>
-        ensures { GivesAlways (λ u. u) result self.now (usage self.now who) }
+    pub fn usage(&self, who: i64) -> Result<Usage, Errno>
+        ensures { Tells result (usage self.now who) }
     {
         match who {
             0 | 1 => Ok(self.process.usage),
             -1 => Ok(Usage { words: [0; 18] }),
-            _ => Err(KernelFault::Errno(Errno::InvalidArgument)),
+            _ => Err(Errno::InvalidArgument),
         }
     }
 
     /// How the process ended. None where it hasn't.
     pub fn ended(&self) -> Option<End>
-        ensures { result ≡ self.now.ended }
+        ensures { result ≡ end_of self.now }
     {
         self.ended
     }
