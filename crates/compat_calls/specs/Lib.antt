@@ -1,3 +1,4 @@
+pub mod Ready
 pub mod World
 pub mod Choice
 pub mod Identity

@@ -1,5 +1,5 @@
 -- One call of a process, whole.
-use Rattle.std.specs.Prelude.{◌≡◌, ℕ, Bool, true, Option, Some, None, Result, Ok, Err}
+use Rattle.std.specs.Prelude.{◌≡◌, ℕ, max, Bool, true, Option, Some, None, Result, Ok, Err}
 use Rattle.kernel_values.specs.Errno.{errno_word}
 use Rattle.kernel_values.specs.declared.errno.Errno.{Errno}
 use Rattle.kernel_values.specs.declared.errno.Errno.TheVariants.{NoCall}
@@ -12,7 +12,6 @@ use Rattle.abi_registers.specs.Arguments.{args_of}
 use Rattle.abi_registers.specs.Places.{kind_in, number_in, words_in, with_result}
 use Rattle.layout_laws.specs.Abis.{AbiRules, rules_of}
 use Rattle.call_tables.specs.Rows.{CallRow, row}
-use Rattle.scratch_region.specs.Needs.{counted}
 use Rattle.served_calls.specs.Calls.{Memory, Served, Service, spare}
 use Rattle.compat_calls.specs.declared.world.World.{World}
 use Rattle.compat_calls.specs.Choice.{call_need, call_service}
@@ -50,9 +49,9 @@ abbrev pub answered_registers : Registers → Result ℕ Errno → Option End �
 answered_registers r answer None = with_result r (result_word answer)
 answered_registers r answer (Some end) = r
 
--- the world and the registers that a served call leaves; of the region that it took and gave back the peak is left
+-- the world and the registers that a served call leaves; of the region is kept the most that a call has taken
 abbrev pub left_by : Registers → World → ℕ → Served Kernel → Trapped
-left_by r w need s = (answered_registers r s.0 (end_of s.1.1), record w { memory = s.1.0; kernel = s.1.1; scratch = counted w.scratch need })
+left_by r w need s = (answered_registers r s.0 (end_of s.1.1), record w { memory = s.1.0; kernel = s.1.1; region = max w.region need })
 
 -- a row's call, or no call, and then the result in its place
 unfoldable pub called : Registers → World → Trapped

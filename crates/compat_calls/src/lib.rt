@@ -5,6 +5,7 @@
 mod choice;
 mod identity;
 mod limits;
+mod region;
 mod times;
 mod trapping;
 mod world;
@@ -12,6 +13,7 @@ mod world;
 pub use choice::serve_row;
 pub use identity::{exit, getgid32, getpid, getrusage, getuid32};
 pub use limits::{prlimit64, setrlimit, ugetrlimit};
+pub use region::{CallRegion, REGION_SIZE};
 pub use times::{
     clock_getres, clock_gettime, clock_nanosleep, clock_settime, gettimeofday, nanosleep,
 };

@@ -1,44 +1,44 @@
 //! One call of a process, whole.
 
-ghost use Rattle.std.specs.Prelude.{◌≡◌, ◌≤◌, None};
+ghost use Rattle.std.specs.Prelude.{◌≡◌, None};
 ghost use Rattle.abi_registers.specs.Places.{kind_in};
 ghost use Rattle.layout_laws.specs.Abis.{rules};
 ghost use Rattle.native_kernel.specs.Operations.{end_of};
-ghost use Rattle.scratch_region.specs.Needs.{IsEmpty, Takes};
 ghost use Rattle.served_calls.specs.Calls.{ServesAs};
+ghost use Rattle.compat_calls.specs.Ready.{Counts};
 ghost use Rattle.compat_calls.specs.Trap.{Traps, may_want, need_of, service_of, trapped};
-ghost use Rattle.compat_calls.specs.World.{IsReady};
 
 use crate::choice::serve_row;
+use crate::region::{CallRegion, release_all};
 use crate::world::World;
 use abi_registers::Registers;
 use call_tables::find_row;
 use kernel_values::{AbiKind, Answer, Errno, KernelFault, OutOfMemory};
 use layout_laws::{ArmEabi, Compat, Ia32};
 use native_kernel::Kernel;
-use scratch_region::Scratch;
 use std::alloc::Global;
 use user_memory::UserMemory;
 
 /// The answer of the call that the registers name. ENOSYS for a number without a row.
-#[tactic(auto, using(scratch_region::proofs::Counts::none_taken), unfolding(crate::specs::Trap::service_of, crate::specs::Trap::need_of))]
+#[tactic(auto, unfolding(crate::specs::Trap::service_of, crate::specs::Trap::need_of))]
 fn answer<A: Compat>(
     alloc: Global,
     memory: &mut UserMemory,
     kernel: &mut Kernel,
-    scratch: &mut Scratch,
+    region: &mut CallRegion,
     registers: &Registers,
 ) -> Answer<u32>
-    requires empty { IsEmpty scratch.old }
-    requires room { 16384 ≤ scratch.old.capacity }
     ensures serves { ServesAs result memory.new kernel.new (service_of (rules A.KIND A.ALIGN64) registers.now memory.old kernel.old) }
-    ensures region { Takes (need_of registers.now kernel.old) result scratch.old scratch.new }
+    ensures region { Counts (need_of registers.now kernel.old) result region.old region.new }
 {
     let Some(row) = find_row(registers.kind(), registers.number()) else {
         return Err(KernelFault::Errno(Errno::NoCall));
     };
     let args = registers.arguments(&row.forms[..row.count]);
-    serve_row::<A>(alloc, memory, kernel, scratch, row.operation, &args)
+    let operation = row.operation;
+    let answer = serve_row::<A>(alloc, memory, kernel, &mut region.scratch, operation, &args);
+    release_all(&mut region.scratch);
+    answer
 }
 
 /// Serves one call of a process that hasn't ended, and answers its registers after it: the result in
@@ -55,14 +55,13 @@ pub fn trap<A: Compat>(
 ) -> Result<Registers, OutOfMemory>
     requires kind { kind_in registers.now ≡ A.KIND }
     requires running { end_of world.old.kernel ≡ None }
-    requires ready { IsReady world.old }
     ensures { Traps (may_want registers.now world.old) result world.new (trapped registers.now world.old) }
 {
     let word = match answer::<A>(
         alloc,
         &mut world.memory,
         &mut world.kernel,
-        &mut world.scratch,
+        &mut world.region,
         registers,
     ) {
         Ok(word) => word,
@@ -82,7 +81,6 @@ pub fn trap_by_kind(
     registers: &Registers,
 ) -> Result<Registers, OutOfMemory>
     requires running { end_of world.old.kernel ≡ None }
-    requires ready { IsReady world.old }
     ensures { Traps (may_want registers.now world.old) result world.new (trapped registers.now world.old) }
 {
     match registers.kind() {

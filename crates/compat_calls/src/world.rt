@@ -1,13 +1,10 @@
 //! A process with its memory, and the kernel behind it.
 
+use crate::region::CallRegion;
 use kernel_values::OutOfMemory;
 use native_kernel::{Identity, Kernel};
-use scratch_region::Scratch;
 use std::alloc::Global;
 use user_memory::UserMemory;
-
-/// How many bytes of the region one call may take.
-pub const REGION_SIZE: usize = 1_310_720;
 
 /// A process and the kernel behind it. `restorer` is the return address of signal handlers whose
 /// action gives none; it has no effect before signals are delivered.
@@ -15,8 +12,8 @@ pub const REGION_SIZE: usize = 1_310_720;
 pub struct World {
     pub memory: UserMemory,
     pub kernel: Kernel,
-    /// What calls translate stands here. It is empty between calls.
-    pub scratch: Scratch,
+    /// What calls translate in.
+    pub region: CallRegion,
     pub restorer: u32,
 }
 
@@ -33,7 +30,7 @@ impl World {
         Ok(World {
             memory: UserMemory::new(alloc)?,
             kernel: Kernel::new(alloc, identity)?,
-            scratch: Scratch::new(alloc, REGION_SIZE)?,
+            region: CallRegion::new(alloc)?,
             restorer,
         })
     }
