@@ -2,8 +2,9 @@
 //! nothing of what it gives: so the proof of a test knows nothing of the kernel's state.
 
 use crate::{Identity, Kernel, Place};
-use file_store::WORKING;
-use kernel_values::{AbiKind, Answer, End, KernelFault, Limit, OpenFlags, StateItem, Usage};
+use kernel_values::{
+    AT_FDCWD, AbiKind, Answer, End, Errno, KernelFault, Limit, OpenFlags, StateItem, Usage,
+};
 use std::alloc::Global;
 use std::test::Fail;
 
@@ -57,6 +58,13 @@ fn ends(answer: Answer<(u32, u32)>) -> i64 {
     }
 }
 
+fn told_errno(answer: Result<u32, Errno>) -> i64 {
+    match answer {
+        Ok(number) => i64::from(number),
+        Err(errno) => told_fault(KernelFault::Errno(errno)),
+    }
+}
+
 fn done(answer: Answer<()>) -> i64 {
     match answer {
         Ok(()) => 0,
@@ -70,7 +78,7 @@ impl Desk {
         let flags = OpenFlags::from_word(AbiKind::Ia32, word);
         told(
             self.kernel
-                .open_by_path(self.alloc, WORKING, path, flags, 0o644)
+                .open_path(self.alloc, AT_FDCWD, path, flags, 0o644)
                 .map(u64::from),
         )
     }
@@ -123,19 +131,19 @@ impl Desk {
 
     /// The flags of a descriptor before and after they are set.
     fn marks(&mut self, fd: i64, word: u32) -> [i64; 2] {
-        let before = told(self.kernel.fd_flags(fd).map(u64::from));
+        let before = told_errno(self.kernel.fd_flags(fd));
         let set = done(self.kernel.set_fd_flags(fd, word));
         if set != 0 {
             return [before, set];
         }
-        [before, told(self.kernel.fd_flags(fd).map(u64::from))]
+        [before, told_errno(self.kernel.fd_flags(fd))]
     }
 
     /// The word of ia32 for the flags of a descriptor's open file.
     fn flags(&self, fd: i64) -> i64 {
         match self.kernel.open_flags(fd) {
             Ok(flags) => i64::from(flags.to_word(AbiKind::Ia32)),
-            Err(fault) => told_fault(fault),
+            Err(errno) => told_fault(KernelFault::Errno(errno)),
         }
     }
 
@@ -154,23 +162,23 @@ impl Desk {
     }
 
     fn enter(&mut self, path: &[u8]) -> i64 {
-        done(self.kernel.change_dir(path))
+        done(self.kernel.change_directory(path))
     }
 
     /// Whether the working directory has this path.
     fn is_at(&self, path: &[u8]) -> bool {
-        match self.kernel.current_dir(self.alloc, 64) {
+        match self.kernel.current_directory(self.alloc, 64) {
             Ok(text) => text.as_slice() == path,
             Err(_) => false,
         }
     }
 
     fn make(&mut self, path: &[u8]) -> i64 {
-        done(self.kernel.make_dir(self.alloc, WORKING, path, 0o755))
+        done(self.kernel.make_directory(self.alloc, AT_FDCWD, path, 0o755))
     }
 
     fn remove(&mut self, path: &[u8], flags: i64) -> i64 {
-        done(self.kernel.remove(WORKING, path, flags))
+        done(self.kernel.remove(AT_FDCWD, path, flags))
     }
 
     fn rename(&mut self, old: &[u8], new: &[u8]) -> i64 {
@@ -198,17 +206,18 @@ impl Desk {
 /// What an item is of, by the first word of its line in a report, and the number that it has there.
 fn line(item: &StateItem) -> (&'static str, u64) {
     match item {
-        StateItem::Clock { real, .. } => ("clock", *real),
-        StateItem::Ended { .. } => ("ended", 0),
-        StateItem::Limit { resource, .. } => ("limit", u64::from(*resource)),
-        StateItem::WorkingDirectory { inode } => ("cwd", *inode),
-        StateItem::Node { inode, .. } => ("node", *inode),
-        StateItem::Name { position, .. } => ("name", *position),
-        StateItem::Bytes { inode, .. } => ("bytes", *inode),
-        StateItem::Lock { first, .. } => ("lock", *first),
-        StateItem::Descriptor { number, .. } => ("fd", *number),
-        StateItem::OpenFile { serial, .. } => ("open", *serial),
-        StateItem::Pipe { inode, .. } => ("pipe", *inode),
+        StateItem::Clock(clock) => ("clock", clock.real),
+        StateItem::Ended(_) => ("ended", 0),
+        StateItem::Limit(limit) => ("limit", u64::from(limit.resource)),
+        StateItem::Working(working) => ("cwd", working.inode),
+        StateItem::Node(node) => ("node", node.inode),
+        StateItem::Name(name) => ("name", name.position),
+        StateItem::Bytes(bytes) => ("bytes", bytes.inode),
+        StateItem::Lock(lock) => ("lock", lock.first),
+        StateItem::Descriptor(descriptor) => ("fd", descriptor.number),
+        StateItem::OpenFile(file) => ("open", file.serial),
+        StateItem::Pipe(pipe) => ("pipe", pipe.inode),
+        _ => ("other", 0),
     }
 }
 

@@ -1,7 +1,7 @@
 //! Each operation once, and its refusals in their order. A helper says nothing of what it gives: so the proof of a test
 //! knows nothing of the kernel's state, however large that is.
 
-use crate::{Identity, Kernel, Process, Slept};
+use crate::{Identity, Kernel, Slept};
 use kernel_values::{
     Answer, Credentials, End, Errno, KernelFault, Limit, OutOfMemory, TimeSpec, Usage,
 };
@@ -41,13 +41,13 @@ fn kernel(alloc: Global) -> Result<Kernel, OutOfMemory> {
 
 /// Another process, and other times.
 fn start(kernel: &mut Kernel) {
-    kernel.start_process(&Process {
+    let owner = Credentials {
         pid: 1,
         uid: 8,
         gid: 9,
-        privileged: true,
-        usage: OWNER.usage,
-    });
+    };
+    kernel.start_owner(&owner, true);
+    kernel.start_usage(&OWNER.usage);
     kernel.start_clocks(10, 20);
 }
 
@@ -55,12 +55,12 @@ fn credentials(kernel: &Kernel) -> Credentials {
     kernel.credentials()
 }
 
-fn clock(kernel: &Kernel, id: i64) -> Answer<u64> {
+fn clock(kernel: &Kernel, id: i64) -> Result<u64, Errno> {
     kernel.clock(id)
 }
 
 /// The real and the monotonic clock, by number and by name.
-fn clocks(kernel: &Kernel) -> ([Answer<u64>; 2], [u64; 2]) {
+fn clocks(kernel: &Kernel) -> ([Result<u64, Errno>; 2], [u64; 2]) {
     let clocks = &kernel.clocks;
     (
         [kernel.clock(0), kernel.clock(1)],
@@ -68,7 +68,7 @@ fn clocks(kernel: &Kernel) -> ([Answer<u64>; 2], [u64; 2]) {
     )
 }
 
-fn both(real: u64, monotonic: u64) -> ([Answer<u64>; 2], [u64; 2]) {
+fn both(real: u64, monotonic: u64) -> ([Result<u64, Errno>; 2], [u64; 2]) {
     ([Ok(real), Ok(monotonic)], [real, monotonic])
 }
 
@@ -84,7 +84,7 @@ fn sleep(kernel: &mut Kernel, id: i64, absolute: bool, time: TimeSpec) -> Answer
     kernel.sleep(id, absolute, &time)
 }
 
-fn limit(kernel: &Kernel, resource: u32) -> Answer<Limit> {
+fn limit(kernel: &Kernel, resource: u32) -> Result<Limit, Errno> {
     kernel.limit(resource)
 }
 
@@ -92,7 +92,7 @@ fn set_limit(kernel: &mut Kernel, resource: u32, soft: u64, hard: u64) -> Answer
     kernel.set_limit(resource, &Limit { soft, hard })
 }
 
-fn usage(kernel: &Kernel, who: i64) -> Answer<Usage> {
+fn usage(kernel: &Kernel, who: i64) -> Result<Usage, Errno> {
     kernel.usage(who)
 }
 
@@ -116,7 +116,7 @@ fn the_image_sets_the_start(rt: HostRuntime) -> Result<(), Fail> {
     same(&rt, credentials(&kernel).pid, 1);
     same(&rt, clocks(&kernel), both(10, 20));
     for id in [2, -1] {
-        same(&rt, clock(&kernel, id), Err(INVALID));
+        same(&rt, clock(&kernel, id), Err(Errno::InvalidArgument));
     }
     same(&rt, set_clock(&mut kernel, 0, time(1, 2)), Ok(()));
     same(&rt, clock(&kernel, 0), Ok(1_000_000_002));
@@ -191,7 +191,7 @@ fn limits_are_refused_in_order(rt: HostRuntime) -> Result<(), Fail> {
             }),
         ),
         (15, Ok(Limit { soft: 3, hard: 4 })),
-        (16, Err(INVALID)),
+        (16, Err(Errno::InvalidArgument)),
     ];
     for (resource, told) in limits {
         same(&rt, limit(&kernel, resource), told);
@@ -206,8 +206,8 @@ fn usage_and_end(rt: HostRuntime) -> Result<(), Fail> {
         (0, Ok(OWNER.usage)),
         (1, Ok(OWNER.usage)),
         (-1, Ok(Usage { words: [0; 18] })),
-        (2, Err(INVALID)),
-        (-2, Err(INVALID)),
+        (2, Err(Errno::InvalidArgument)),
+        (-2, Err(Errno::InvalidArgument)),
     ];
     for (who, told) in usages {
         same(&rt, usage(&kernel, who), told);

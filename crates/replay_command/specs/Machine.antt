@@ -13,10 +13,8 @@ use Rattle.kernel_values.specs.declared.process_end.End.{End}
 use Rattle.native_kernel.specs.declared.state.Identity.{Identity}
 use Rattle.native_kernel.specs.declared.state.Kernel.{Kernel}
 use Rattle.native_kernel.specs.Usages.{nothing_used}
-use Rattle.native_kernel.specs.Operations.{advanced, image_bytes, image_directory, image_file, image_lock, with_clocks, with_process}
-use Rattle.call_tables.specs.declared.find.Row.{Row}
-use Rattle.call_tables.specs.Rows.{row}
-use Rattle.call_tables.specs.Names.{name}
+use Rattle.native_kernel.specs.Operations.{advanced, end_of, image_bytes, image_directory, image_file, image_lock, with_clocks, with_owner, with_usage}
+use Rattle.call_tables.specs.Rows.{CallRow, row}
 use Rattle.compat_calls.specs.World.{started_world}
 use Rattle.compat_calls.specs.Trap.{Trapped, trapped}
 use Rattle.script_reader.specs.Grammar as lines
@@ -35,14 +33,14 @@ abbrev pub silent : Machine → Done
 silent m = record { machine = m; text = [] }
 
 -- the name of the call of these registers
-abbrev pub row_name : Option Row → List ℕ
+abbrev pub row_name : Option CallRow → List ℕ
 row_name None = codes "unknown"
-row_name (Some row) = name row.operation
+row_name (Some row) = row.name
 
 -- what a call writes
 abbrev pub event_text : ℕ → Registers → Trapped → List ℕ
 event_text k registers after =
-    call_text k (row_name (row (kind_in registers) (number_in registers))) (all_in after.0) ++ changes_text (changes after.1.memory 0) ++ end_text after.1.kernel.ended
+    call_text k (row_name (row (kind_in registers) (number_in registers))) (all_in after.0) ++ changes_text (changes after.1.memory 0) ++ end_text (end_of after.1.kernel)
 
 abbrev pub called : Machine → Registers → Trapped → Done
 called m registers after = record { machine = record m { calls = m.calls + 1; world = after.1 }; text = event_text (m.calls + 1) registers after }
@@ -54,7 +52,7 @@ called_where m registers (Some end) = record { machine = record m { calls = m.ca
 
 -- a call: changes are told from here on
 unfoldable pub call : Machine → Registers → Done
-call m registers = called_where m registers m.world.kernel.ended
+call m registers = called_where m registers (end_of m.world.kernel)
 
 abbrev pub with_kernel : Machine → Kernel → Machine
 with_kernel m k = record m { world = record m.world { kernel = k } }
@@ -68,17 +66,11 @@ set_clock m real monotonic = with_kernel m (with_clocks m.world.kernel real mono
 
 -- whose process it is
 unfoldable pub set_who : Machine → Credentials → Bool → Machine
-set_who m owner privileged =
-    with_kernel m (with_process m.world.kernel (record m.world.kernel.process {
-      pid = owner.pid;
-      uid = owner.uid;
-      gid = owner.gid;
-      privileged = privileged;
-    }))
+set_who m owner privileged = with_kernel m (with_owner m.world.kernel owner privileged)
 
 -- what the process has used
 unfoldable pub set_usage : Machine → Usage → Machine
-set_usage m usage = with_kernel m (with_process m.world.kernel (record m.world.kernel.process { usage = usage }))
+set_usage m usage = with_kernel m (with_usage m.world.kernel usage)
 
 -- the return address of signal handlers
 unfoldable pub set_restorer : Machine → ℕ → Machine

@@ -7,7 +7,7 @@ use crate::state::put_state;
 use abi_registers::Registers;
 use compat_calls::{World, trap_by_kind};
 use kernel_values::{AbiKind, Credentials, KernelFault, OutOfMemory, Usage};
-use native_kernel::{Identity, Process};
+use native_kernel::Identity;
 use script_reader::Record;
 use std::alloc::Global;
 use user_memory::{MapFault, Rights};
@@ -65,14 +65,7 @@ impl Machine {
         ensures machine { self.new ≡ set_who self.old owner.now privileged }
         ensures calls { self.new.calls ≡ self.old.calls }
     {
-        let process = Process {
-            pid: owner.pid,
-            uid: owner.uid,
-            gid: owner.gid,
-            privileged,
-            usage: self.world.kernel.process.usage,
-        };
-        self.world.kernel.start_process(&process);
+        self.world.kernel.start_owner(owner, privileged);
     }
 
     /// What the process has used. Whose it is stays.
@@ -81,9 +74,7 @@ impl Machine {
         ensures machine { self.new ≡ set_usage self.old usage.now }
         ensures calls { self.new.calls ≡ self.old.calls }
     {
-        let mut process = self.world.kernel.process;
-        process.usage = *usage;
-        self.world.kernel.start_process(&process);
+        self.world.kernel.start_usage(usage);
     }
 
     /// The return address of signal handlers.

@@ -23,7 +23,7 @@ fn name_of(registers: &Registers) -> &'static [u8]
     ensures { result.now ≡ row_name (row (kind_in registers.now) (number_in registers.now)) }
 {
     match find_row(registers.kind(), registers.number()) {
-        Some(row) => row.operation.name().as_bytes(),
+        Some(row) => row.name.as_bytes(),
         None => b"unknown",
     }
 }
