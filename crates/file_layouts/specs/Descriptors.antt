@@ -5,8 +5,8 @@ use Rattle.layout_laws.specs.declared.columns.Field.TheVariants.{I32}
 use Rattle.layout_laws.specs.declared.columns.Misfit.TheVariants.{Low}
 use Rattle.layout_laws.specs.declared.columns.Offset.TheVariants.{At}
 use Rattle.layout_laws.specs.Shapes.{Shape}
+use Rattle.layout_laws.specs.Tables.{column}
 use Rattle.file_layouts.specs.declared.descriptors.DescriptorPair.{DescriptorPair}
-use Rattle.file_layouts.specs.Tables.{column}
 
 -- int pipefd[2], 8 bytes
 abbrev pub descriptor_pair_columns : List Column

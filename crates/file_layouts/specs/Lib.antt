@@ -3,4 +3,3 @@ pub mod Directories
 pub mod Locks
 pub mod Positions
 pub mod Stats
-pub mod Tables

@@ -7,9 +7,9 @@ use Rattle.layout_laws.specs.declared.columns.Field.TheVariants.{I16, I32, I64}
 use Rattle.layout_laws.specs.declared.columns.Misfit.TheVariants.{Clamp, Low, Refuse}
 use Rattle.layout_laws.specs.declared.columns.Offset.TheVariants.{At, By}
 use Rattle.layout_laws.specs.Shapes.{Shape}
+use Rattle.layout_laws.specs.Tables.{column}
 use Rattle.file_layouts.specs.declared.locks.Lock32.{Lock32}
 use Rattle.file_layouts.specs.declared.locks.Lock64.{Lock64}
-use Rattle.file_layouts.specs.Tables.{column}
 
 -- the words of a lock
 abbrev pub lock_row : Lock → List ℕ

@@ -6,8 +6,8 @@ use Rattle.layout_laws.specs.declared.columns.Field.TheVariants.{I64}
 use Rattle.layout_laws.specs.declared.columns.Misfit.TheVariants.{Low}
 use Rattle.layout_laws.specs.declared.columns.Offset.TheVariants.{At}
 use Rattle.layout_laws.specs.Shapes.{Shape}
+use Rattle.layout_laws.specs.Tables.{column}
 use Rattle.file_layouts.specs.declared.positions.Position64.{Position64}
-use Rattle.file_layouts.specs.Tables.{column}
 
 -- loff_t, 8 bytes
 abbrev pub position_64_columns : List Column

@@ -8,9 +8,9 @@ use Rattle.layout_laws.specs.declared.columns.Field.TheVariants.{I64, U16, U32, 
 use Rattle.layout_laws.specs.declared.columns.Misfit.TheVariants.{Clamp, Low, Refuse, RefuseAbove}
 use Rattle.layout_laws.specs.declared.columns.Offset.TheVariants.{At, By}
 use Rattle.layout_laws.specs.Shapes.{Shape}
+use Rattle.layout_laws.specs.Tables.{column}
 use Rattle.file_layouts.specs.declared.stat.Stat32.{Stat32}
 use Rattle.file_layouts.specs.declared.stat64.Stat64.{Stat64}
-use Rattle.file_layouts.specs.Tables.{column}
 
 -- the words of a status up to the nanoseconds of its last change
 abbrev pub status_row : Stat → List ℕ

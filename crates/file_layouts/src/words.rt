@@ -2,7 +2,7 @@
 
 ghost use Rattle.std.specs.Prelude.{◌≡◌, ◌≤◌, ◌<◌, ◌%◌, ◌^◌, length};
 ghost use Rattle.std.specs.Int.{w16, w32, cast_signed};
-ghost use Rattle.file_layouts.specs.Stats.{status_from, time_at};
+ghost use Rattle.file_layouts.specs.Stats.{status_from, status_row, time_at};
 ghost use Rattle.file_layouts.specs.Locks.{lock_from, lock_row};
 
 use kernel_values::{Lock, Stat, TimeSpec};
@@ -38,6 +38,30 @@ fn time_of(row: &[u64], seconds: usize, nanos: usize) -> TimeSpec
         seconds: row[seconds].cast_signed(),
         nanos: row[nanos].cast_signed(),
     }
+}
+
+/// The words of a status, up to the nanoseconds of its last change.
+pub(crate) fn status_words(s: &Stat) -> [u64; 16]
+    ensures { result ≡ status_row s.now }
+{
+    [
+        s.dev,
+        s.ino,
+        u64::from(s.mode),
+        u64::from(s.nlink),
+        u64::from(s.uid),
+        u64::from(s.gid),
+        s.rdev,
+        s.size.cast_unsigned(),
+        u64::from(s.blksize),
+        s.blocks,
+        s.atime.seconds.cast_unsigned(),
+        s.atime.nanos.cast_unsigned(),
+        s.mtime.seconds.cast_unsigned(),
+        s.mtime.nanos.cast_unsigned(),
+        s.ctime.seconds.cast_unsigned(),
+        s.ctime.nanos.cast_unsigned(),
+    ]
 }
 
 /// The status of a row's words, with the inode `ino`.
@@ -76,7 +100,8 @@ pub(crate) fn lock_words(lock: &Lock) -> [u64; 5]
 }
 
 /// The lock of a row's words.
-pub(crate) fn lock_of(row: &[u64; 5]) -> Lock
+pub(crate) fn lock_of(row: &[u64]) -> Lock
+    requires { length row.now ≡ 5 }
     ensures { result ≡ lock_from row.now }
 {
     Lock {

@@ -4,3 +4,4 @@ pub mod Laws
 pub mod Rows
 pub mod Shapes
 pub mod Stored
+pub mod Tables

@@ -7,9 +7,6 @@ use crate::rows::NoForm;
 
 /// A type with a layout in the ABI `A`.
 pub trait Layout<A: Abi>: Sized {
-    /// Bytes of the shape.
-    const SIZE: usize;
-
     ghost SIZE: { ℕ };
 
     /// The value as the layout can hold it, or none.
@@ -20,6 +17,10 @@ pub trait Layout<A: Abi>: Sized {
 
     /// The value that bytes mean.
     ghost value: { List ℕ → Self };
+
+    /// Bytes of the shape.
+    fn size() -> usize
+        ensures { result ≡ SIZE };
 
     /// Writes the bytes of the value, or says that it has no form and writes nothing.
     fn put(&self, out: &mut [u8]) -> Result<(), NoForm>

@@ -7,17 +7,17 @@ pub mod layout;
 pub mod numbers;
 pub mod rows;
 pub mod table;
+pub mod tabled;
 pub mod user;
-pub mod value;
 
 pub use abi::{Abi, ArmEabi, Compat, Ia32, Native64};
 pub use columns::{Column, Field, Misfit, Offset};
 pub use layout::Layout;
 pub use numbers::{put_numbers, put_words};
 pub use rows::NoForm;
-pub use table::{Table, get_row, put_row};
+pub use table::{Table, bytes_of, get_row, put_row};
+pub use tabled::Tabled;
 pub use user::{StoreFault, fetch, store};
-pub use value::{AsRow, get_value, put_value};
 
 #[cfg(test)]
 mod tests;

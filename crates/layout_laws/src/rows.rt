@@ -23,7 +23,7 @@ fn width_of(field: Field) -> usize
     }
 }
 
-fn place_of(wide: bool, offset: Offset) -> usize
+pub(crate) fn place_of(wide: bool, offset: Offset) -> usize
     ensures { result ≡ place wide offset }
 {
     match offset {

@@ -1,13 +1,13 @@
 use crate::Field::{I32, U16, U32, U64};
 use crate::Misfit::{Clamp, Low, Refuse, RefuseAbove};
 use crate::Offset::{At, By};
-use crate::{Abi, ArmEabi, Column, Ia32, Native64, NoForm, Table, get_row, put_row};
+use crate::{Abi, ArmEabi, Column, Ia32, Native64, NoForm, Table, bytes_of, get_row, put_row};
 use std::test::Fail;
 
 /// A shape whose 64-bit number is aligned by the ABI.
-const SHAPE: Table<5> = Table {
+const SHAPE: Table = Table {
     size: By(24, 32),
-    columns: [
+    columns: &[
         Column(U32, At(0), Low),
         Column(U64, By(4, 8), RefuseAbove(0x7fff_ffff_ffff_ffff)),
         Column(U16, By(12, 16), Clamp(65_535, 65_534)),
@@ -20,13 +20,15 @@ const ROW: [u64; 5] = [0x1_0000_0002, 3, 70_000, u64::MAX, 0x8000_0000];
 
 #[test]
 fn ia32_aligns_to_four_bytes(rt: HostRuntime) -> Result<(), Fail> {
+    let mut row = ROW;
     let mut out = [7; 24];
-    assert_eq!(rt; put_row::<Ia32, 5>(&SHAPE, ROW, &mut out), Ok(()));
+    assert_eq!(rt; put_row::<Ia32>(SHAPE, &mut row, &mut out), Ok(()));
     let spelled = [
         2, 0, 0, 0, 3, 0, 0, 0, 0, 0, 0, 0, 0xfe, 0xff, 0, 0, 0xff, 0xff, 0xff, 0xff, 0, 0, 0, 0x80,
     ];
     assert_eq!(rt; out, spelled);
-    let read = get_row::<Ia32, 5>(&SHAPE, &out);
+    let mut read = [0; 5];
+    get_row::<Ia32>(SHAPE, &out, &mut read);
     assert_eq!(rt; read, [2, 3, 65_534, u64::MAX, 0xffff_ffff_8000_0000]);
     Ok(())
 }
@@ -38,14 +40,20 @@ fn arm_and_native_align_to_eight_bytes(rt: HostRuntime) -> Result<(), Fail> {
         0, 0, 0, 0x80, 0, 0, 0, 0,
     ];
     let meant = [2, 3, 65_534, u64::MAX, 0xffff_ffff_8000_0000];
+    let mut row = ROW;
     let mut out = [7; 32];
-    assert_eq!(rt; put_row::<ArmEabi, 5>(&SHAPE, ROW, &mut out), Ok(()));
+    assert_eq!(rt; put_row::<ArmEabi>(SHAPE, &mut row, &mut out), Ok(()));
     assert_eq!(rt; out, spelled);
-    assert_eq!(rt; get_row::<ArmEabi, 5>(&SHAPE, &out), meant);
+    let mut read = [0; 5];
+    get_row::<ArmEabi>(SHAPE, &out, &mut read);
+    assert_eq!(rt; read, meant);
+    let mut row = ROW;
     let mut out = [7; 32];
-    assert_eq!(rt; put_row::<Native64, 5>(&SHAPE, ROW, &mut out), Ok(()));
+    assert_eq!(rt; put_row::<Native64>(SHAPE, &mut row, &mut out), Ok(()));
     assert_eq!(rt; out, spelled);
-    assert_eq!(rt; get_row::<Native64, 5>(&SHAPE, &out), meant);
+    let mut read = [0; 5];
+    get_row::<Native64>(SHAPE, &out, &mut read);
+    assert_eq!(rt; read, meant);
     Ok(())
 }
 
@@ -68,14 +76,21 @@ fn abis_have_their_constants(rt: HostRuntime) -> Result<(), Fail> {
 }
 
 #[test]
+fn a_shape_has_its_bytes(rt: HostRuntime) -> Result<(), Fail> {
+    assert_eq!(rt; bytes_of::<Ia32>(SHAPE), 24);
+    assert_eq!(rt; bytes_of::<ArmEabi>(SHAPE), 32);
+    Ok(())
+}
+
+#[test]
 fn a_row_without_form_changes_nothing(rt: HostRuntime) -> Result<(), Fail> {
     let mut out = [7; 24];
     let mut row = ROW;
     row[3] = 0x8000_0000;
-    assert_eq!(rt; put_row::<Ia32, 5>(&SHAPE, row, &mut out), Err(NoForm));
+    assert_eq!(rt; put_row::<Ia32>(SHAPE, &mut row, &mut out), Err(NoForm));
     let mut row = ROW;
     row[1] = 0x8000_0000_0000_0000;
-    assert_eq!(rt; put_row::<Ia32, 5>(&SHAPE, row, &mut out), Err(NoForm));
+    assert_eq!(rt; put_row::<Ia32>(SHAPE, &mut row, &mut out), Err(NoForm));
     assert_eq!(rt; out, [7; 24]);
     Ok(())
 }

@@ -27,7 +27,7 @@ pub fn fetch<A: Abi, T: Layout<A>>(memory: &UserMemory, at: u32) -> Result<T, Fa
     ensures value { IfOk result (λ v. v ≡ T.value (bytes_at memory.now at T.SIZE)) }
 {
     let mut buffer = [0; MOST];
-    let bytes = &mut buffer[..T::SIZE];
+    let bytes = &mut buffer[..T::size()];
     memory.copy_in(at, bytes)?;
     Ok(T::get(bytes))
 }
@@ -42,7 +42,7 @@ pub fn store<A: Abi, T: Layout<A>>(
     ensures memory { memory.new ≡ memory_after memory.old at (T.spelling value.now) }
 {
     let mut buffer = [0; MOST];
-    let bytes = &mut buffer[..T::SIZE];
+    let bytes = &mut buffer[..T::size()];
     if value.put(bytes).is_err() {
         return Err(StoreFault::NoForm);
     }

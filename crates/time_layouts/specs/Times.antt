@@ -6,11 +6,11 @@ use Rattle.layout_laws.specs.declared.columns.Field.TheVariants.{I32}
 use Rattle.layout_laws.specs.declared.columns.Misfit.TheVariants.{Low}
 use Rattle.layout_laws.specs.declared.columns.Offset.TheVariants.{At}
 use Rattle.layout_laws.specs.Shapes.{Shape}
+use Rattle.layout_laws.specs.Tables.{column}
 use Rattle.time_layouts.specs.declared.times.FileTimes32.{FileTimes32}
 use Rattle.time_layouts.specs.declared.times.TimeSpec32.{TimeSpec32}
 use Rattle.time_layouts.specs.declared.times.TimeVal32.{TimeVal32}
 use Rattle.time_layouts.specs.declared.times.TimerValue32.{TimerValue32}
-use Rattle.time_layouts.specs.Tables.{column}
 
 -- struct timespec of 32-bit processes, 8 bytes
 abbrev pub time_spec_columns : List Column

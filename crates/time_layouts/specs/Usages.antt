@@ -6,8 +6,8 @@ use Rattle.layout_laws.specs.declared.columns.Field.TheVariants.{I32}
 use Rattle.layout_laws.specs.declared.columns.Misfit.TheVariants.{Low}
 use Rattle.layout_laws.specs.declared.columns.Offset.TheVariants.{At}
 use Rattle.layout_laws.specs.Shapes.{Shape}
+use Rattle.layout_laws.specs.Tables.{column}
 use Rattle.time_layouts.specs.declared.usage.Usage32.{Usage32}
-use Rattle.time_layouts.specs.Tables.{column}
 
 -- struct rusage of 32-bit processes, 72 bytes
 abbrev pub usage_columns : List Column

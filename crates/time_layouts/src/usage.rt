@@ -1,16 +1,13 @@
 //! `struct rusage` of `include/uapi/linux/resource.h` with 32-bit words.
 
 ghost use Rattle.std.specs.Prelude.{refl};
-ghost use Rattle.layout_laws.specs.Shapes.{size_of, form_of, spelling_of, value_of, shape_is_small, shape_has_form, shape_fills, shape_reads_back};
 ghost use Rattle.time_layouts.specs.Usages.{usage};
 
 use kernel_values::Usage;
 use layout_laws::Field::I32;
 use layout_laws::Misfit::Low;
 use layout_laws::Offset::At;
-use layout_laws::{
-    Abi, AsRow, Column, Layout, NoForm, Table, get_value, put_numbers, put_value, put_words,
-};
+use layout_laws::{Column, Table, Tabled, put_numbers, put_words};
 
 /// Resources used: user and system time in seconds and microseconds, and 14 counts, each by its low
 /// 32 bits.
@@ -20,9 +17,9 @@ pub struct Usage32 {
 }
 
 /// The table of `Usage32`.
-pub const USAGE_32: Table<18> = Table {
+pub const USAGE_32: Table = Table {
     size: At(72),
-    columns: [
+    columns: &[
         Column(I32, At(0), Low), // user seconds
         Column(I32, At(4), Low), // user micros
         Column(I32, At(8), Low), // system seconds
@@ -44,48 +41,24 @@ pub const USAGE_32: Table<18> = Table {
     ],
 };
 
-impl AsRow<18> for Usage32 {
+impl Tabled for Usage32 {
     ghost shape = { usage };
 
-    fn row(&self) -> [u64; 18] {
-        let mut words = [0; 18];
-        put_words(&self.usage.words, &mut words);
-        words
+    fn table() -> Table {
+        USAGE_32
     }
 
-    fn of_row(row: &[u64; 18]) -> Self {
+    fn put_row(&self, row: &mut [u64]) {
+        put_words(&self.usage.words, row);
+    }
+
+    fn of_row(row: &[u64]) -> Self {
         let mut words = [0; 18];
         put_numbers(row, &mut words);
         Usage32 {
             usage: Usage { words },
         }
     }
-}
 
-impl<A: Abi> Layout<A> for Usage32 {
-    const SIZE: usize = 72;
-
-    ghost SIZE = { size_of usage A.ALIGN64 };
-
-    ghost form = { form_of usage };
-
-    ghost spelling = { spelling_of usage A.ALIGN64 };
-
-    ghost value = { value_of usage A.ALIGN64 };
-
-    fn put(&self, out: &mut [u8]) -> Result<(), NoForm> {
-        put_value::<A, Self, 18>(&USAGE_32, self, out)
-    }
-
-    fn get(from: &[u8]) -> Self {
-        get_value::<A, Self, 18>(&USAGE_32, from)
-    }
-
-    ghost size_small = { shape_is_small usage A.ALIGN64 refl };
-
-    ghost has_form = { shape_has_form usage A.ALIGN64 };
-
-    ghost fills = { shape_fills usage A.ALIGN64 refl };
-
-    ghost reads_back = { shape_reads_back usage A.ALIGN64 refl };
+    ghost sound = { refl };
 }
