@@ -1,6 +1,7 @@
 //! The bytes of a file.
 
 ghost use Rattle.std.specs.Prelude.{◌≡◌, ℕ, List, [], ◌+◌, ◌<◌, ◌≤◌, ◌^◌, ◌++◌, length, take, drop, replicate, OnOk, IfSome, MatchOption, ◌∷◌};
+ghost use Rattle.kernel_values.specs.Bounds.{most_file_bytes};
 ghost use Rattle.file_bytes.specs.Row.{resized, row, written};
 ghost use Rattle.file_bytes.specs.Pages.{byte_at};
 ghost use Rattle.file_bytes.specs.Runs.{runs_from};
@@ -22,6 +23,7 @@ pub struct Content {
 }
 
 impl Model for Content {
+    ghost use Rattle.kernel_values.specs.Bounds.{most_file_bytes};
     ghost use Rattle.std.specs.Prelude.{◌≡◌, ℕ, List, ◌≤◌, ◌^◌};
     ghost use Rattle.file_bytes.specs.Row.{row};
     ghost use Rattle.file_bytes.specs.Pages.{byte_at};
@@ -30,7 +32,7 @@ impl Model for Content {
 
     ghost view = { λ c. row (byte_at c.pages.map.entries) 0 c.size };
 
-    ghost invariant = { λ c. (c.size ≤ 2 ^ 40) × ((i : ℕ) → c.size ≤ i → byte_at c.pages.map.entries i ≡ 0) };
+    ghost invariant = { λ c. (c.size ≤ most_file_bytes) × ((i : ℕ) → c.size ≤ i → byte_at c.pages.map.entries i ≡ 0) };
 }
 
 impl Content {
@@ -48,7 +50,7 @@ impl Content {
     /// A file of `size` zeros, which takes no memory.
     #[tactic(auto, using(crate::proofs::Contents::zero_run, crate::proofs::Contents::no_page))]
     pub fn zeros(alloc: Global, size: u64) -> Content
-        requires { size ≤ 2 ^ 40 }
+        requires { size ≤ most_file_bytes }
         ensures { result ≡ replicate size 0 }
     {
         Content {
@@ -61,7 +63,7 @@ impl Content {
     #[tactic(auto, using(crate::proofs::Contents::content_length))]
     pub fn len(&self) -> u64
         ensures len { result ≡ length self.now }
-        ensures limit { result ≤ 2 ^ 40 }
+        ensures limit { result ≤ most_file_bytes }
     {
         self.size
     }
@@ -83,7 +85,7 @@ impl Content {
     /// On an `Err` some of the bytes may have been written, and it may have grown to hold them all.
     #[tactic(auto, using(crate::proofs::Contents::content_written, crate::proofs::Contents::zeros_kept))]
     pub fn write(&mut self, alloc: Global, at: u64, from: &[u8]) -> Result<(), OutOfMemory>
-        requires { at + length from.now ≤ 2 ^ 40 }
+        requires { at + length from.now ≤ most_file_bytes }
         ensures { OnOk result (self.new ≡ written self.old at from.now) }
     {
         // The size grows where memory ran out too, since some of the bytes may have been written.
@@ -99,7 +101,7 @@ impl Content {
     /// It takes no memory.
     #[tactic(auto, using(crate::proofs::Contents::content_resized, crate::proofs::Contents::zeros_cut))]
     pub fn set_length(&mut self, size: u64)
-        requires { size ≤ 2 ^ 40 }
+        requires { size ≤ most_file_bytes }
         ensures { self.new ≡ resized self.old size }
     {
         self.pages.cut(size);

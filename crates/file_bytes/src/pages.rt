@@ -1,6 +1,7 @@
 //! The pages of a file, by number.
 
 ghost use Rattle.std.specs.Prelude.{[], ◌≡◌, ℕ, List, true, false, None, ◌+◌, ◌-◌, ◌*◌, ◌/◌, ◌%◌, ◌<◌, ◌≤◌, ◌^◌, ◌++◌, length, take, drop, replicate, IsSome, IfSome, Some, OnOk, OnErr, IfOk};
+ghost use Rattle.kernel_values.specs.Bounds.{most_file_bytes};
 ghost use Rattle.file_bytes.specs.Row.{Cuts, Overlays, laid, row};
 ghost use Rattle.number_maps.specs.NumberMap.{at};
 ghost use Rattle.file_bytes.specs.Pages.{Puts, SameBytes, byte_at, piece_length};
@@ -162,7 +163,7 @@ impl Pages {
 
     /// Clears all bytes from an offset on: pages wholly past it are dropped. It takes no memory.
     pub fn cut(&mut self, end: u64)
-        requires { end ≤ 2 ^ 40 }
+        requires { end ≤ most_file_bytes }
         ensures { Cuts (byte_at self.old.map.entries) (byte_at self.new.map.entries) end }
     {
         self.drop_pages_from((end + PAGE - 1) / PAGE);

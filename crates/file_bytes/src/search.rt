@@ -1,6 +1,7 @@
 //! The search for the next run of bytes other than 0, which looks at the pages alone that are there.
 
 ghost use Rattle.std.specs.Prelude.{◌≡◌, ◌≢◌, ℕ, List, ◌+◌, ◌-◌, ◌*◌, ◌/◌, ◌<◌, ◌≤◌, ◌^◌, length, slice_index, max, Some, None, MatchOption, IfSome, IsSome};
+ghost use Rattle.kernel_values.specs.Bounds.{most_file_bytes};
 ghost use Rattle.number_maps.specs.NumberMap.{at};
 ghost use Rattle.file_bytes.specs.Pages.{byte_at};
 ghost use Rattle.file_bytes.specs.Search.{AreZero, AreFilled, IsNext};
@@ -92,7 +93,7 @@ impl Pages {
 
     /// The first run at or after an offset.
     pub fn next_run(&self, from: u64) -> Option<Run>
-        ensures { IsNext (byte_at self.now.map.entries) from (2 ^ 40) result }
+        ensures { IsNext (byte_at self.now.map.entries) from most_file_bytes result }
     {
         if from / PAGE >= PAGES {
             return None;

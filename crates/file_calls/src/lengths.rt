@@ -14,7 +14,7 @@ use user_memory::UserMemory;
 
 /// truncate(path, length), and truncate64
 ///
-/// EFAULT and ENAMETOOLONG of the path; then the refusals of `Kernel::set_length_at`.
+/// EFAULT and ENAMETOOLONG of the path; then the refusals of `Kernel::truncate`.
 #[tactic(auto, unfolding(crate::specs::Lengths::truncate))]
 pub fn truncate<A: Compat>(memory: &mut UserMemory, kernel: &mut Kernel, args: &Args) -> Answer<u32>
     ensures { ServesAlways result memory.new kernel.new (served (truncate (rules A.KIND A.ALIGN64) args.now) memory.old kernel.old) }
@@ -27,7 +27,7 @@ pub fn truncate<A: Compat>(memory: &mut UserMemory, kernel: &mut Kernel, args: &
 
 /// ftruncate(descriptor, length), and ftruncate64
 ///
-/// The refusals of `Kernel::set_length`.
+/// The refusals of `Kernel::truncate_open`.
 #[tactic(auto, unfolding(crate::specs::Lengths::ftruncate))]
 pub fn ftruncate<A: Compat>(
     memory: &mut UserMemory,

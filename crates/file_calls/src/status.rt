@@ -16,8 +16,8 @@ use user_memory::UserMemory;
 
 /// stat(path, place)
 ///
-/// EFAULT and ENAMETOOLONG of the path; then the refusals of `Kernel::status_at`; EOVERFLOW for a size, an inode or
-/// links above 2^31 - 1; EFAULT.
+/// EFAULT and ENAMETOOLONG of the path; then the refusals of `Kernel::status_at`; EOVERFLOW for a size above 2^31 - 1, an inode
+/// above 2^32 - 1 or more than 65,535 links; EFAULT.
 #[tactic(auto, unfolding(crate::specs::Status::stat))]
 pub fn stat<A: Compat>(memory: &mut UserMemory, kernel: &mut Kernel, args: &Args) -> Answer<u32>
     ensures { ServesAlways result memory.new kernel.new (served (stat (rules A.KIND A.ALIGN64) args.now) memory.old kernel.old) }
@@ -31,7 +31,7 @@ pub fn stat<A: Compat>(memory: &mut UserMemory, kernel: &mut Kernel, args: &Args
 
 /// fstat(descriptor, place)
 ///
-/// EBADF; EOVERFLOW for a size, an inode or links above 2^31 - 1; EFAULT.
+/// EBADF; EOVERFLOW for a size above 2^31 - 1, an inode above 2^32 - 1 or more than 65,535 links; EFAULT.
 #[tactic(auto, unfolding(crate::specs::Status::fstat))]
 pub fn fstat<A: Compat>(memory: &mut UserMemory, kernel: &mut Kernel, args: &Args) -> Answer<u32>
     ensures { ServesAlways result memory.new kernel.new (served (fstat (rules A.KIND A.ALIGN64) args.now) memory.old kernel.old) }
