@@ -3,7 +3,7 @@ use Rattle.std.proofs.Common.{◌≡◌, ℕ, ◌+◌, ◌-◌, Bool, List, [], 
 use Rattle.std.proofs.lemmas.Grind.{common_steps}
 use Rattle.kernel_values.specs.declared.errno.Errno.{Errno}
 use Rattle.kernel_values.specs.declared.listing.DirEntry.{DirEntry}
-use Rattle.file_store.specs.Listing.{IsBehind}
+use Rattle.file_tree.specs.Listing.{IsBehind}
 use Rattle.served_calls.specs.Calls.{Memory}
 use Rattle.file_calls.specs.Listings.{cut_short, listed_records, one_more, records, stored_then, stores_entry}
 use Rattle.file_calls.specs.declared.listings.Listed.{Listed}

@@ -24,7 +24,7 @@ use Rattle.call_tables.specs.declared.operation.RetimingOperation.{RetimingOpera
 use Rattle.call_tables.specs.declared.operation.RetimingOperation.TheVariants.{Utimensat}
 use Rattle.call_tables.specs.declared.operation.LengthOperation.{LengthOperation}
 use Rattle.call_tables.specs.declared.operation.LengthOperation.TheVariants.{Fallocate, Ftruncate, Ftruncate64, Truncate, Truncate64}
-use Rattle.file_store.specs.Transfers.{moves_bytes}
+use Rattle.open_files.specs.Transfers.{moves_bytes}
 use Rattle.served_calls.specs.Calls.{Memory, Service, served, spare, taking, taking_if}
 use Rattle.file_calls.specs.Commands.{command_64_of, command_of, command_takes_memory}
 use Rattle.file_calls.specs.Descriptors as descriptors

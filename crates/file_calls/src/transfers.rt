@@ -3,7 +3,7 @@
 
 ghost use Rattle.std.specs.Prelude.{◌≡◌, ◌<◌, ◌^◌, true, length, Ok};
 ghost use Rattle.user_memory.specs.Memory.{is_writable};
-ghost use Rattle.file_store.specs.Transfers.{moves_bytes};
+ghost use Rattle.open_files.specs.Transfers.{moves_bytes};
 ghost use Rattle.layout_laws.specs.Abis.{rules};
 ghost use Rattle.served_calls.specs.Calls.{Delivers, Serves, ServesAlways, ServesBy, served};
 ghost use Rattle.file_calls.specs.Transfers.{gives_bytes, gives_position, halves, llseek, lseek, pread64, pwrite64, read, write};

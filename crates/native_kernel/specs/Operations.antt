@@ -12,8 +12,12 @@ use Rattle.kernel_values.specs.declared.status.Stat.{Stat}
 use Rattle.kernel_values.specs.declared.open_flags.OpenFlags.{OpenFlags}
 use Rattle.kernel_values.specs.Bounds.{at_fdcwd}
 use Rattle.kernel_values.specs.Times.{time_of}
-use Rattle.file_store.specs.declared.state.Maker.{Maker}
-use Rattle.file_store.specs.declared.state.Place.{Place}
+use Rattle.file_tree.specs.declared.state.Maker.{Maker}
+use Rattle.open_files.specs.declared.state.Place.{Place}
+use Rattle.file_tree.specs.Working as working_text
+use Rattle.open_files.specs.Descriptors as positions
+use Rattle.open_files.specs.Flags as flags_of
+use Rattle.open_files.specs.Numbers as numbers
 use Rattle.file_store.specs.Closing as closing
 use Rattle.file_store.specs.Descriptors as descriptors
 use Rattle.file_store.specs.Image as image
@@ -27,6 +31,8 @@ use Rattle.file_store.specs.Piping as piping
 use Rattle.file_store.specs.Removing as removing
 use Rattle.file_store.specs.Renaming as renaming
 use Rattle.file_store.specs.Retiming as retiming
+use Rattle.file_store.specs.Seeking as seeking
+use Rattle.file_store.specs.State.{on_open_files}
 use Rattle.file_store.specs.Status as status_of
 use Rattle.file_store.specs.Transfers as transfers
 use Rattle.file_store.specs.Working as working
@@ -73,7 +79,7 @@ end_of k = k.ended
 
 -- a process ends: its descriptors are closed, ascending
 unfoldable pub finish : Kernel → End → Kernel
-finish k end = record k { files = closing.all_closed k.files; ended = Some end }
+finish k end = record k { files = closing.close_all k.files; ended = Some end }
 
 -- the soft limit of descriptors, RLIMIT_NOFILE
 unfoldable pub most_descriptors : Kernel → ℕ
@@ -84,7 +90,7 @@ unfoldable pub maker : Kernel → Maker
 maker k = record { uid = k.process.uid; gid = k.process.gid; time = time_of k.clocks.real }
 
 unfoldable pub can_use : Kernel → ℤ → Bool → Bool → Bool
-can_use k fd read write = descriptors.can_use k.files fd read write
+can_use k fd read write = flags_of.can_use k.files.open_files fd read write
 
 unfoldable pub open_path : Kernel → ℤ → List ℕ → OpenFlags → ℕ → Result ℕ Errno × Kernel
 open_path k from path flags mode = on_files k (opening.open_path k.files (most_descriptors k) (maker k) from path flags mode)
@@ -99,10 +105,10 @@ unfoldable pub write : Kernel → ℤ → ℕ → List ℕ → Place → Result 
 write k fd wanted piece place = on_files k (transfers.write k.files (time_of k.clocks.real) fd wanted piece place)
 
 unfoldable pub seek : Kernel → ℤ → ℤ → ℕ → Result ℤ Errno × Kernel
-seek k fd offset whence = on_files k (descriptors.seek k.files fd offset whence)
+seek k fd offset whence = on_files k (seeking.seek k.files fd offset whence)
 
 unfoldable pub duplicate : Kernel → ℤ → ℤ → Bool → Result ℕ Errno × Kernel
-duplicate k fd least cloexec = on_files k (descriptors.duplicate k.files (most_descriptors k) fd least cloexec)
+duplicate k fd least cloexec = on_files k (on_open_files k.files (numbers.duplicate k.files.open_files (most_descriptors k) fd least cloexec))
 
 unfoldable pub duplicate_to : Kernel → ℤ → ℤ → ℕ → Bool → Result ℕ Errno × Kernel
 duplicate_to k fd new flags three = on_files k (descriptors.duplicate_to k.files (most_descriptors k) fd new flags three)
@@ -112,16 +118,16 @@ unfoldable pub pipe : Kernel → ℕ → Result (ℕ × ℕ) Errno × Kernel
 pipe k flags = on_files k (piping.pipe k.files (most_descriptors k) flags)
 
 unfoldable pub fd_flags : Kernel → ℤ → Result ℕ Errno
-fd_flags k fd = flags_of.fd_flags k.files fd
+fd_flags k fd = flags_of.fd_flags k.files.open_files fd
 
 unfoldable pub set_fd_flags : Kernel → ℤ → ℕ → Result ⊤ Errno × Kernel
-set_fd_flags k fd word = on_files k (descriptors.set_fd_flags k.files fd word)
+set_fd_flags k fd word = on_files k (on_open_files k.files (flags_of.set_fd_flags k.files.open_files fd word))
 
 unfoldable pub open_flags : Kernel → ℤ → Result OpenFlags Errno
-open_flags k fd = flags_of.open_flags k.files fd
+open_flags k fd = flags_of.open_flags k.files.open_files fd
 
 unfoldable pub set_open_flags : Kernel → ℤ → OpenFlags → Result ⊤ Errno × Kernel
-set_open_flags k fd flags = on_files k (descriptors.set_open_flags k.files fd flags)
+set_open_flags k fd flags = on_files k (on_open_files k.files (flags_of.set_open_flags k.files.open_files fd flags))
 
 unfoldable pub status : Kernel → ℤ → Result Stat Errno
 status k fd = status_of.status k.files (maker k) fd
@@ -142,7 +148,7 @@ unfoldable pub listing : Kernel → ℤ → ℕ → Result (List DirEntry) Errno
 listing k fd position = listing_of.listing k.files fd position
 
 unfoldable pub position : Kernel → ℤ → Result ℕ Errno
-position k fd = listing_of.position k.files fd
+position k fd = positions.position k.files.open_files fd
 
 unfoldable pub truncate : Kernel → List ℕ → ℤ → Result ⊤ Errno × Kernel
 truncate k path wanted = on_files k (lengths.truncate k.files (time_of k.clocks.real) path wanted)
@@ -166,7 +172,7 @@ unfoldable pub change_directory : Kernel → List ℕ → Result ⊤ Errno × Ke
 change_directory k path = on_files k (working.change_directory k.files at_fdcwd path)
 
 unfoldable pub current_directory : Kernel → ℕ → Result (List ℕ) Errno
-current_directory k size = working.current_directory k.files size
+current_directory k size = working_text.current_directory k.files.tree size
 
 -- what lines of the image make
 unfoldable pub image_directory : Kernel → List ℕ → ℕ → Result ⊤ Errno × Kernel
@@ -179,7 +185,7 @@ unfoldable pub image_bytes : Kernel → List ℕ → ℕ → List ℕ → Result
 image_bytes k path offset bytes = on_files k (image.image_bytes k.files path offset bytes)
 
 unfoldable pub image_lock : Kernel → List ℕ → Bool → ℕ → ℕ → ℕ → Result ⊤ Errno × Kernel
-image_lock k path write start count pid = on_files k (locks.image_lock k.files path write start count pid)
+image_lock k path write start count pid = on_files k (image.image_lock k.files path write start count pid)
 
 abbrev pub process_of : Identity → Process
 process_of i = record { pid = i.pid; uid = i.uid; gid = i.gid; privileged = i.privileged; usage = i.usage }

@@ -2,7 +2,7 @@
 
 ghost use Rattle.std.specs.Prelude.{◌≡◌, ◌<◌, IfOk, IfSome};
 ghost use Rattle.kernel_values.specs.Outcome.{Gives, GivesAlways, Tells};
-ghost use Rattle.file_store.specs.Listing.{TellsEntry};
+ghost use Rattle.file_tree.specs.Listing.{TellsEntry};
 ghost use Rattle.native_kernel.specs.Operations.{listing, make_directory, position, remove, rename};
 
 use crate::state::Kernel;
@@ -58,6 +58,6 @@ impl Kernel {
     pub fn position(&self, fd: i64) -> Result<u64, Errno>
         ensures { Tells result (position self.now fd) }
     {
-        self.files.position(fd)
+        self.files.open_files.position(fd)
     }
 }

@@ -2,7 +2,7 @@
 
 ghost use Rattle.std.specs.Prelude.{◌≡◌, ◌≤◌, true, length, IfOk};
 ghost use Rattle.kernel_values.specs.Outcome.{Gives, GivesAlways, GivesTold, OnOutOfMemory, Tells};
-ghost use Rattle.file_store.specs.Transfers.{moves_bytes};
+ghost use Rattle.open_files.specs.Transfers.{moves_bytes};
 ghost use Rattle.native_kernel.specs.Operations.{can_use, change_directory, close, current_directory, duplicate, duplicate_to, fd_flags, image_bytes, image_directory, image_file, maker, most_descriptors, open_flags, open_path, read, seek, set_fd_flags, set_open_flags, write};
 
 use crate::state::Kernel;
@@ -36,7 +36,7 @@ impl Kernel {
     pub fn can_use(&self, fd: i64, read: bool, write: bool) -> bool
         ensures { result ≡ can_use self.now fd read write }
     {
-        self.files.can_use(fd, read, write)
+        self.files.open_files.can_use(fd, read, write)
     }
 
     /// Opens a path, from the directory of descriptor `from` or from the working directory (-100), at the lowest free
@@ -125,7 +125,7 @@ impl Kernel {
         ensures { Gives (λ n. n) result self.new (duplicate self.old fd least cloexec) }
     {
         let limit = self.most_descriptors();
-        self.files.duplicate(limit, fd, least, cloexec)
+        self.files.open_files.duplicate(limit, fd, least, cloexec)
     }
 
     /// Makes a number name the same open file, as dup2 does, or as dup3 where `three` holds. EBADF; for dup3 EINVAL for
@@ -143,7 +143,7 @@ impl Kernel {
     pub fn fd_flags(&self, fd: i64) -> Result<u32, Errno>
         ensures { Tells result (fd_flags self.now fd) }
     {
-        self.files.fd_flags(fd)
+        self.files.open_files.fd_flags(fd)
     }
 
     /// Sets the flags of a descriptor, by bit 0. EBADF. It takes no memory.
@@ -151,7 +151,7 @@ impl Kernel {
     pub fn set_fd_flags(&mut self, fd: i64, word: u32) -> Answer<()>
         ensures { GivesAlways (λ _. tt) result self.new (set_fd_flags self.old fd word) }
     {
-        self.files.set_fd_flags(fd, word)
+        self.files.open_files.set_fd_flags(fd, word)
     }
 
     /// The flags of a descriptor's open file. EBADF. It takes no memory.
@@ -159,7 +159,7 @@ impl Kernel {
     pub fn open_flags(&self, fd: i64) -> Result<OpenFlags, Errno>
         ensures { Tells result (open_flags self.now fd) }
     {
-        self.files.open_flags(fd)
+        self.files.open_files.open_flags(fd)
     }
 
     /// Sets `O_APPEND` and `O_NONBLOCK` of a descriptor's open file. EBADF. It takes no memory.
@@ -167,7 +167,7 @@ impl Kernel {
     pub fn set_open_flags(&mut self, fd: i64, flags: OpenFlags) -> Answer<()>
         ensures { GivesAlways (λ _. tt) result self.new (set_open_flags self.old fd flags) }
     {
-        self.files.set_open_flags(fd, flags)
+        self.files.open_files.set_open_flags(fd, flags)
     }
 
     /// Changes the working directory. What refuses the path; ENOTDIR for a file. It takes no memory.
@@ -184,7 +184,7 @@ impl Kernel {
         ensures told { GivesTold (λ v. v) result (current_directory self.now size) }
         ensures length { IfOk result (λ v. length v ≤ 4096) }
     {
-        let text = self.files.current_directory(alloc, size)?;
+        let text = self.files.tree.current_directory(alloc, size)?;
         Ok(ByteList::from_vec(text))
     }
 

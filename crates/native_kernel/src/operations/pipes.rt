@@ -15,7 +15,7 @@ impl Kernel {
         ensures { Foretells result self.now (pipe self.now flags) }
     {
         let limit = self.most_descriptors();
-        let ends = self.files.pipe_numbers(limit, flags)?;
+        let ends = self.files.open_files.pipe_numbers(limit, flags)?;
         Ok(ends)
     }
 
