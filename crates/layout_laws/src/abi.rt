@@ -1,8 +1,9 @@
 //! The ABIs, by what decides their layouts.
 
-ghost use Rattle.std.specs.Prelude.{◌≡◌, ℕ, Bool, true, false, refl};
+ghost use Rattle.std.specs.Prelude.{◌≡◌, ℕ, Bool, true, false, Option, Some, None, refl};
 ghost use Rattle.kernel_values.specs.declared.abi.AbiKind.{AbiKind};
 ghost use Rattle.kernel_values.specs.Abi.{align_of, are_pairs_even};
+ghost use Rattle.layout_laws.specs.Abis.{constants_of};
 
 use kernel_values::AbiKind;
 
@@ -27,6 +28,12 @@ pub trait Abi {
     ghost BLOB_ALIGN: { ℕ };
 
     ghost PAIR_EVEN: { Bool };
+
+    /// The kind of 32-bit process, or none for the 64-bit kernel.
+    ghost process: { Option AbiKind };
+
+    /// The constants are those that are defined.
+    ghost constants_are: { record { word = WORD; align64 = ALIGN64; blob_align = BLOB_ALIGN; pair_even = PAIR_EVEN } ≡ constants_of process };
 }
 
 /// The ABI of a 32-bit process.
@@ -74,6 +81,10 @@ impl Abi for Ia32 {
     ghost BLOB_ALIGN = { 4 };
 
     ghost PAIR_EVEN = { false };
+
+    ghost process = { Some AbiKind.Ia32 };
+
+    ghost constants_are = { refl };
 }
 
 impl Abi for ArmEabi {
@@ -92,6 +103,10 @@ impl Abi for ArmEabi {
     ghost BLOB_ALIGN = { 8 };
 
     ghost PAIR_EVEN = { true };
+
+    ghost process = { Some AbiKind.ArmEabi };
+
+    ghost constants_are = { refl };
 }
 
 impl Abi for Native64 {
@@ -110,6 +125,10 @@ impl Abi for Native64 {
     ghost BLOB_ALIGN = { 8 };
 
     ghost PAIR_EVEN = { false };
+
+    ghost process = { None };
+
+    ghost constants_are = { refl };
 }
 
 impl Compat for Ia32 {
