@@ -1,61 +1,75 @@
--- The row of a number, by the tables of calls.
-use Rattle.std.specs.Prelude.{ℕ, Bool, true, false, ◌==◌, ◌&&◌, nat_le, drop, if◌then◌else◌, List, [], ◌∷◌, Option, Some, None}
+-- The row of a number, by the lines of the call tables.
+use Rattle.std.specs.Prelude.{ℕ, Bool, true, false, ◌==◌, not, ◌&&◌, nat_le, length, find, map, take, drop, List, [], ◌∷◌, Option, Some, None, option_map}
+use Rattle.std.specs.List.{filter_map, flat_map, list_all, list_any}
+use Rattle.std.specs.Option.{option_map_or}
+use denote.Ref.{Bor}
 use Rattle.kernel_values.specs.declared.abi.AbiKind.{AbiKind}
 use Rattle.kernel_values.specs.declared.abi.AbiKind.TheVariants.{Ia32, ArmEabi}
 use Rattle.abi_registers.specs.declared.arguments.Form.{Form}
 use Rattle.abi_registers.specs.declared.arguments.Form.TheVariants.{Word, Signed, Pair}
+use Rattle.call_tables.specs.declared.operation.Operation.{Operation}
 use Rattle.call_tables.specs.declared.table.Numbers.{Numbers}
 use Rattle.call_tables.specs.declared.table.Numbers.TheVariants.{Both, By, Ia32Alone, ArmAlone}
 use Rattle.call_tables.specs.declared.table.Entry.{Entry}
 use Rattle.call_tables.specs.declared.find.Row.{Row}
-use Rattle.call_tables.specs.Calls.{calls_0, calls_64, calls_128, calls_192, calls_256, calls_320}
+use Rattle.call_tables.specs.Calls.{Line, calls}
 
--- whether a call has this number in an ABI
-abbrev pub has_number : AbiKind → Numbers → ℕ → Bool
-has_number abi (Both both) number = number == both
-has_number Ia32 (By ia32 arm) number = number == ia32
-has_number ArmEabi (By ia32 arm) number = number == arm
-has_number Ia32 (Ia32Alone ia32) number = number == ia32
-has_number ArmEabi (Ia32Alone ia32) number = false
-has_number Ia32 (ArmAlone arm) number = false
-has_number ArmEabi (ArmAlone arm) number = number == arm
+-- how a call is read: which it is, its name in ASCII, and the forms of its arguments
+pub record CallRow : Type 0 where
+  pub operation : Operation
+  pub name : List ℕ
+  pub forms : List Form
 
-abbrev pub row_of : Entry → Row
-row_of e = record { operation = e.0; forms = e.3; count = e.2 }
+abbrev pub row_of_line : Line → CallRow
+row_of_line l = record { operation = l.operation; name = l.name; forms = l.forms }
+
+-- the number of a call in an ABI, where it has one
+abbrev pub number_in : AbiKind → Numbers → Option ℕ
+number_in abi (Both both) = Some both
+number_in Ia32 (By ia32 arm) = Some ia32
+number_in ArmEabi (By ia32 arm) = Some arm
+number_in Ia32 (Ia32Alone ia32) = Some ia32
+number_in ArmEabi (Ia32Alone ia32) = None
+number_in Ia32 (ArmAlone arm) = None
+number_in ArmEabi (ArmAlone arm) = Some arm
+
+abbrev pub has_number : AbiKind → ℕ → Numbers → Bool
+has_number abi number numbers = option_map_or (λ n. n == number) (number_in abi numbers) false
+
+-- the row of the first of these lines with this number
+abbrev pub row_in : AbiKind → ℕ → List Line → Option CallRow
+row_in abi number lines = option_map row_of_line (find (λ l. has_number abi number l.numbers) lines)
 
 -- the row of the first line with this number
-unfoldable pub row_in : AbiKind → ℕ → List Entry → Option Row
-row_in abi number [] = None
-row_in abi number (e ∷ es) = if has_number abi e.1 number then Some (row_of e) else row_in abi number es
+unfoldable pub row : AbiKind → ℕ → Option CallRow
+row abi number = row_in abi number calls
 
--- the row in the table of the numbers from 0 to 63, from 64 to 127, and so on
-unfoldable pub row_from_0 : AbiKind → ℕ → Option Row
-row_from_0 abi number = row_in abi number calls_0
+-- ---- what the lines keep
 
-unfoldable pub row_from_64 : AbiKind → ℕ → Option Row
-row_from_64 abi number = row_in abi number calls_64
+abbrev pub numbers_in : AbiKind → List Line → List ℕ
+numbers_in abi lines = filter_map (λ l. number_in abi l.numbers) lines
 
-unfoldable pub row_from_128 : AbiKind → ℕ → Option Row
-row_from_128 abi number = row_in abi number calls_128
+-- no two numbers are equal
+abbrev pub differ : List ℕ → Bool
+differ [] = true
+differ (n ∷ ns) = not (list_any (λ m. m == n) ns) && differ ns
 
-unfoldable pub row_from_192 : AbiKind → ℕ → Option Row
-row_from_192 abi number = row_in abi number calls_192
+-- no two lines have the same number in an ABI
+unfoldable pub lines_differ : AbiKind → Bool
+lines_differ abi = differ (numbers_in abi calls)
 
-unfoldable pub row_from_256 : AbiKind → ℕ → Option Row
-row_from_256 abi number = row_in abi number calls_256
+-- no line has more than six arguments
+unfoldable pub lines_fit : Bool
+lines_fit = list_all (λ l. nat_le (length l.forms) 6) calls
 
-unfoldable pub row_from_320 : AbiKind → ℕ → Option Row
-row_from_320 abi number = row_in abi number calls_320
+-- ---- rows and lines as the program has them
 
-abbrev pub or_else : Option Row → Option Row → Option Row
-or_else None other = other
-or_else (Some row) other = Some row
+-- a row, whose forms are those up to its count
+abbrev pub row_seen : Row → CallRow
+row_seen r = record { operation = r.operation; name = r.name.now; forms = take r.count r.forms }
 
--- the row of the first line with this number among those of all tables, whatever the number's range
-unfoldable pub row : AbiKind → ℕ → Option Row
-row abi number =
-    or_else (row_from_0 abi number) (or_else (row_from_64 abi number) (or_else (row_from_128 abi number)
-    (or_else (row_from_192 abi number) (or_else (row_from_256 abi number) (row_from_320 abi number)))))
+abbrev pub line_seen : Entry → Line
+line_seen e = record { operation = e.0; name = e.1.now; numbers = e.2; forms = take e.3 e.4 }
 
 -- all forms are `Word`
 abbrev pub are_words : List Form → Bool
@@ -64,7 +78,10 @@ are_words (Word ∷ forms) = are_words forms
 are_words (Signed ∷ forms) = false
 are_words (Pair ∷ forms) = false
 
--- each line has at most six arguments, and `Word` past them
-abbrev pub all_fit : List Entry → Bool
-all_fit [] = true
-all_fit (e ∷ es) = (nat_le e.2 6 && are_words (drop e.2 e.3)) && all_fit es
+-- a line has at most six arguments, and `Word` past them
+abbrev pub fits : Entry → Bool
+fits e = nat_le e.3 6 && are_words (drop e.3 e.4)
+
+-- the lines of tables, one after another
+abbrev pub lines_seen : List (Bor (List Entry)) → List Line
+lines_seen tables = flat_map (λ t. map line_seen t.now) tables

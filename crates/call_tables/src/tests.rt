@@ -1,4 +1,8 @@
-use crate::{Operation, TimeOperation, find_row};
+use crate::{
+    DescriptorOperation, FileOperation, IdentityOperation, LengthOperation, LimitOperation,
+    ListingOperation, NameOperation, Operation, PathOperation, PipeOperation, RetimingOperation,
+    StatusOperation, TimeOperation, TransferOperation, find_row,
+};
 use abi_registers::Form::{self, Pair, Signed, Word};
 use kernel_values::AbiKind::{ArmEabi, Ia32};
 use std::test::*;
@@ -57,7 +61,7 @@ const CALLS: [(u32, u32, &[u8], usize, [Form; 2]); 46] = [
 fn each_call_has_its_row_on_both(rt: HostRuntime) -> Result<(), Fail> {
     for (ia32, arm, name, count, [first, second]) in CALLS {
         let row = find_row(Ia32, ia32).ok_or("no row on i386")?;
-        assert_eq!(rt; row.operation.name().as_bytes(), name);
+        assert_eq!(rt; row.name.as_bytes(), name);
         assert_eq!(rt; row.count, count, "at {ia32}");
         assert_eq!(rt;
             row.forms,
@@ -75,7 +79,7 @@ fn offsets_are_pairs(rt: HostRuntime) -> Result<(), Fail> {
     for (number, name) in [(180, "pread64"), (181, "pwrite64")] {
         for abi in [Ia32, ArmEabi] {
             let row = find_row(abi, number).ok_or("no row")?;
-            assert_eq!(rt; row.operation.name(), name);
+            assert_eq!(rt; row.name, name);
             assert_eq!(rt; row.count, 4);
             assert_eq!(rt; row.forms, [Signed, Word, Word, Pair, Word, Word]);
         }
@@ -96,7 +100,7 @@ fn later_flags_are_signed_and_lengths_are_pairs(rt: HostRuntime) -> Result<(), F
     for (ia32, arm, name, count, [first, second, third, fourth]) in CALLS_OF_MORE_FORMS {
         for (abi, number) in [(Ia32, ia32), (ArmEabi, arm)] {
             let row = find_row(abi, number).ok_or("no row")?;
-            assert_eq!(rt; row.operation.name().as_bytes(), name);
+            assert_eq!(rt; row.name.as_bytes(), name);
             assert_eq!(rt; row.count, count);
             assert_eq!(rt; row.forms, [first, second, third, fourth, Word, Word]);
         }
@@ -127,11 +131,63 @@ fn one_number_means_two_calls(rt: HostRuntime) -> Result<(), Fail> {
     let on_arm = find_row(ArmEabi, 265).ok_or("no row on arm")?;
     assert_eq!(rt;
         on_ia32.operation,
-        Operation::Time(TimeOperation::ClockGettime)
+        Operation::Times(TimeOperation::ClockGettime)
     );
     assert_eq!(rt;
         on_arm.operation,
-        Operation::Time(TimeOperation::ClockNanosleep)
+        Operation::Times(TimeOperation::ClockNanosleep)
     );
+    Ok(())
+}
+
+/// A number on i386, and its call: one of each kind.
+const OPERATIONS: [(u32, Operation); 12] = [
+    (
+        5,
+        Operation::Files(FileOperation::Paths(PathOperation::Open)),
+    ),
+    (
+        38,
+        Operation::Files(FileOperation::Names(NameOperation::Rename)),
+    ),
+    (
+        63,
+        Operation::Files(FileOperation::Descriptors(DescriptorOperation::Dup2)),
+    ),
+    (
+        42,
+        Operation::Files(FileOperation::Pipes(PipeOperation::Pipe)),
+    ),
+    (
+        140,
+        Operation::Files(FileOperation::Transfers(TransferOperation::Llseek)),
+    ),
+    (
+        220,
+        Operation::Files(FileOperation::Listings(ListingOperation::Getdents64)),
+    ),
+    (
+        300,
+        Operation::Files(FileOperation::Status(StatusOperation::Fstatat64)),
+    ),
+    (
+        320,
+        Operation::Files(FileOperation::Retiming(RetimingOperation::Utimensat)),
+    ),
+    (
+        324,
+        Operation::Files(FileOperation::Lengths(LengthOperation::Fallocate)),
+    ),
+    (162, Operation::Times(TimeOperation::Nanosleep)),
+    (191, Operation::Limits(LimitOperation::Ugetrlimit)),
+    (252, Operation::Identity(IdentityOperation::ExitGroup)),
+];
+
+#[test]
+fn a_call_of_each_kind(rt: HostRuntime) -> Result<(), Fail> {
+    for (number, operation) in OPERATIONS {
+        let row = find_row(Ia32, number).ok_or("no row")?;
+        assert_eq!(rt; row.operation, operation, "at {number}");
+    }
     Ok(())
 }
