@@ -1,4 +1,2 @@
 pub mod Moves
 pub mod Closings
-pub mod FileItems
-pub mod Pipings

@@ -2,31 +2,23 @@
 
 ghost use Rattle.std.specs.Prelude.{◌≡◌, ℕ, ◌+◌, false, IfOk, OnOk, List, Option, None, Some};
 ghost use Rattle.kernel_values.specs.Outcome.{Gives, Tells, settled};
-ghost use Rattle.file_tables.specs.Made.{HasRoom, is_full};
-ghost use Rattle.file_store.specs.Making.{file_mode};
-ghost use Rattle.file_tables.specs.Numbers.{new_number};
+ghost use Rattle.file_tree.specs.Making.{next_inode};
+ghost use Rattle.open_files.specs.Made.{HasRoom, is_full};
 ghost use Rattle.file_store.specs.Opening.{admitted, kind_of, new_open_file, open_path, opened_missing, opened_present, truncated, with_file};
 
-use crate::descriptors::SMALL_SIZE;
-use crate::making::made_node;
-use crate::state::{Files, Maker};
-use file_tables::{Last, OpenFile, ends_with_slash};
-use kernel_values::{Answer, Errno, KernelFault, OpenFlags, OpenKind, OutOfMemory};
+use crate::state::Files;
+use file_tables::{Last, ends_with_slash};
+use file_tree::Maker;
+use kernel_values::{Answer, Errno, KernelFault, MOST_NARROW, OpenFlags, OpenKind, OutOfMemory};
+use open_files::OpenFile;
 use std::alloc::Global;
-
-/// The mode word of a file that is made: S_IFREG of `include/uapi/linux/stat.h`, and the permission bits.
-fn file_mode(mode: u32) -> u32
-    ensures { result ≡ file_mode mode }
-{
-    0x8000 + mode % 0x1000
-}
 
 impl Files {
     /// What an inode is.
-    pub(crate) fn kind_of(&self, inode: u64) -> OpenKind
+    fn kind_of(&self, inode: u64) -> OpenKind
         ensures { result ≡ kind_of self.now inode }
     {
-        if self.directories.has(inode) {
+        if self.tree.is_directory(inode) {
             OpenKind::Directory
         } else {
             OpenKind::File
@@ -41,14 +33,14 @@ impl Files {
         if flags.creates() && flags.is_exclusive() {
             return Err(Errno::Exists);
         }
-        let is_directory = self.directories.has(inode);
+        let is_directory = self.tree.is_directory(inode);
         if is_directory && (flags.asks_write() || flags.creates()) {
             return Err(Errno::IsDirectory);
         }
         if !is_directory && flags.wants_directory() {
             return Err(Errno::NotDirectory);
         }
-        if !flags.is_large() && self.contents.len(inode) > SMALL_SIZE {
+        if !flags.is_large() && self.tree.size_of(inode) > MOST_NARROW {
             return Err(Errno::Overflow);
         }
         Ok(())
@@ -64,7 +56,7 @@ impl Files {
         ensures { OnOk result (self.new ≡ truncated self.old flags inode) }
     {
         if flags.truncates() && flags.asks_write() {
-            return self.contents.add(alloc, inode);
+            return self.tree.empty(alloc, inode);
         }
         Ok(())
     }
@@ -81,7 +73,6 @@ impl Files {
     }
 
     /// Makes a file and its name, and gives its inode.
-    #[tactic(auto, unfolding(crate::specs::Opening::with_file))]
     fn add_file(
         &mut self,
         alloc: Global,
@@ -89,27 +80,24 @@ impl Files {
         last: &Last<'_>,
         mode: u32,
     ) -> Result<u64, OutOfMemory>
-        requires { is_full self.old.made ≡ false }
-        ensures number { IfOk result (λ i. i ≡ new_number self.old.numbers) }
-        ensures room { OnOk result (HasRoom self.new.made 1) }
+        requires { is_full self.old.open_files.made ≡ false }
+        ensures number { IfOk result (λ i. i ≡ next_inode self.old.tree) }
+        ensures room { OnOk result (HasRoom self.new.open_files.made 1) }
         ensures after { OnOk result (self.new ≡ with_file self.old maker.now (last.now.place, last.now.name.now) mode) }
     {
-        let inode = self.numbers.take()?;
-        self.add_name(alloc, maker.time, last, inode)?;
-        self.contents.add(alloc, inode)?;
-        self.nodes.put(inode, made_node(maker, file_mode(mode)))?;
-        self.made.count(2);
+        let inode = self.tree.add_file(alloc, maker, last, mode)?;
+        self.open_files.count(2);
         Ok(inode)
     }
 
     /// open and openat: opens what a path names, or makes a file with O_CREAT, at the lowest free number below
     /// `limit`, the soft limit of descriptors. `from` is the descriptor of the directory where a path begins
-    /// that has no slash at its front, or `WORKING`.
+    /// that has no slash at its front, or `AT_FDCWD`.
     ///
     /// EMFILE; ENFILE where fewer than four things are left to make; EINVAL for O_CREAT with O_DIRECTORY; what
     /// refuses the path (ENOENT, EBADF, ENOTDIR, ENAMETOOLONG); of a missing name ENOENT without O_CREAT, and
     /// EISDIR with a slash at the end; of one that is there EEXIST, EISDIR, ENOTDIR and EOVERFLOW.
-    pub fn open_by_path(
+    pub fn open_path(
         &mut self,
         alloc: Global,
         limit: u32,
@@ -121,17 +109,15 @@ impl Files {
     ) -> Answer<u32>
         ensures { Gives (λ n. n) result self.new (open_path self.old limit maker.now from path.now flags mode) }
     {
-        let Some(number) = self.free_number(0, limit) else {
-            return Err(KernelFault::Errno(Errno::TooManyDescriptors));
-        };
-        if self.made.is_full() {
+        let number = self.open_files.free_number(0, limit)?;
+        if self.open_files.is_full() {
             return Err(KernelFault::Errno(Errno::TableFull));
         }
         if flags.creates() && flags.wants_directory() {
             return Err(KernelFault::Errno(Errno::InvalidArgument));
         }
         let last = self.resolve_parent(from, path)?;
-        let entry = self.directories.last_entry(&last, path)?;
+        let entry = self.tree.last_entry(&last, path)?;
         match entry {
             Some(inode) => self.open_present(alloc, flags, number, inode),
             None => self.open_missing(alloc, maker, &last, path, flags, mode, number),
@@ -146,13 +132,14 @@ impl Files {
         number: u32,
         inode: u64,
     ) -> Answer<u32>
-        requires { is_full self.old.made ≡ false }
+        requires { is_full self.old.open_files.made ≡ false }
         ensures { Gives (λ n. n) result self.new (settled self.old (opened_present self.old flags number inode)) }
     {
         self.admitted(flags, inode)?;
         self.truncate_opened(alloc, flags, inode)?;
         let file = self.new_open_file(flags, inode);
-        self.put_open_file(number, file, flags.closes_on_exec())?;
+        self.open_files
+            .put_open_file(number, file, flags.closes_on_exec())?;
         Ok(number)
     }
 
@@ -167,7 +154,7 @@ impl Files {
         mode: u32,
         number: u32,
     ) -> Answer<u32>
-        requires { is_full self.old.made ≡ false }
+        requires { is_full self.old.open_files.made ≡ false }
         ensures { Gives (λ n. n) result self.new (settled self.old (opened_missing self.old maker.now (last.now.place, last.now.name.now) path.now flags mode number)) }
     {
         if !flags.creates() {
@@ -178,7 +165,8 @@ impl Files {
         }
         let inode = self.add_file(alloc, maker, last, mode)?;
         let file = self.new_open_file(flags, inode);
-        self.put_open_file(number, file, flags.closes_on_exec())?;
+        self.open_files
+            .put_open_file(number, file, flags.closes_on_exec())?;
         Ok(number)
     }
 }

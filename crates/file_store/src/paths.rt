@@ -1,4 +1,4 @@
-//! From a path to an inode.
+//! Where the steps of a path begin, and the inode that they lead to.
 
 ghost use Rattle.std.specs.Prelude.{◌≡◌, ℕ};
 ghost use Rattle.kernel_values.specs.Outcome.{Tells, TellsAs};
@@ -6,16 +6,13 @@ ghost use Rattle.file_store.specs.Paths.{is_working, place_of, resolve, resolve_
 
 use crate::state::Files;
 use file_tables::{Last, ROOT, is_absolute};
-use kernel_values::Errno;
-
-/// `AT_FDCWD` of `include/uapi/linux/fcntl.h`: the working directory in place of a descriptor.
-pub const WORKING: i64 = -100;
+use kernel_values::{AT_FDCWD, Errno};
 
 /// Whether a descriptor means the working directory.
 pub(crate) fn is_working(fd: i64) -> bool
     ensures { result ≡ is_working fd }
 {
-    fd == WORKING
+    fd == AT_FDCWD
 }
 
 impl Files {
@@ -25,10 +22,10 @@ impl Files {
         ensures { Tells result (place_of self.now from) }
     {
         if is_working(from) {
-            return Ok(self.working);
+            return Ok(self.tree.working());
         }
-        let (_, file) = self.open_file(from)?;
-        if !self.directories.has(file.inode) {
+        let (_, file) = self.open_files.open_file(from)?;
+        if !self.tree.is_directory(file.inode) {
             return Err(Errno::NotDirectory);
         }
         Ok(file.inode)
@@ -54,7 +51,7 @@ impl Files {
         ensures { TellsAs (λ l. (l.place, l.name.now)) result (resolve_parent self.now from path.now) }
     {
         let start = self.start_of(from, path)?;
-        self.directories.walk(start, path)
+        self.tree.parent_from(start, path)
     }
 
     /// The inode of a path. ENOENT; EBADF; ENOTDIR; ENAMETOOLONG.
@@ -62,8 +59,7 @@ impl Files {
     pub(crate) fn resolve(&self, from: i64, path: &[u8]) -> Result<u64, Errno>
         ensures { Tells result (resolve self.now from path.now) }
     {
-        let last = self.resolve_parent(from, path)?;
-        let entry = self.directories.last_entry(&last, path)?;
-        entry.ok_or(Errno::NoEntry)
+        let start = self.start_of(from, path)?;
+        self.tree.inode_from(start, path)
     }
 }

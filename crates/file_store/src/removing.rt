@@ -2,7 +2,7 @@
 
 ghost use Rattle.std.specs.Prelude.{◌≡◌};
 ghost use Rattle.kernel_values.specs.Outcome.{GivesAlways, Tells, TellsAs};
-ghost use Rattle.file_store.specs.Removing.{parent_named, remove, remove_directory, spare, unlink, unnamed, without_directory, without_name};
+ghost use Rattle.file_store.specs.Removing.{has_open, parent_named, remove, remove_directory, unlink};
 
 use crate::state::Files;
 use file_tables::{Last, is_dot, is_dot_dot};
@@ -12,6 +12,13 @@ use kernel_values::{Answer, Errno, KernelFault, TimeSpec};
 const REMOVE_DIRECTORY: i64 = 0x200;
 
 impl Files {
+    /// Whether some open file has an inode.
+    pub(crate) fn has_open(&self, inode: u64) -> bool
+        ensures { result ≡ has_open self.now inode }
+    {
+        self.open_files.is_open(inode)
+    }
+
     /// The steps of a path to its last name, and that name, with what refuses the name whether it is there or not.
     /// ENOENT; EBADF; ENOTDIR; ENAMETOOLONG.
     #[tactic(auto, unfolding(crate::specs::Removing::parent_named))]
@@ -19,29 +26,8 @@ impl Files {
         ensures { TellsAs (λ l. (l.place, l.name.now)) result (parent_named self.now from path.now) }
     {
         let last = self.resolve_parent(from, path)?;
-        self.directories.entry_at(last.place, last.name)?;
+        self.tree.entry_at(&last)?;
         Ok(last)
-    }
-
-    /// Takes a name out of its directory.
-    pub(crate) fn drop_name(&mut self, now: TimeSpec, last: &Last<'_>)
-        ensures { self.new ≡ without_name self.old now (last.now.place, last.now.name.now) }
-    {
-        self.directories.leave(last.place, last.name);
-        self.nodes.touch(last.place, now);
-    }
-
-    /// Drops a file that lost its name, where no open file holds it.
-    #[tactic(auto, unfolding(crate::specs::Removing::unnamed))]
-    pub(crate) fn unname(&mut self, inode: u64)
-        ensures { self.new ≡ unnamed self.old inode }
-    {
-        if self.open_files.hold(inode) {
-            self.nodes.forget_name(inode);
-            return;
-        }
-        let _node = self.nodes.remove(inode);
-        self.contents.remove(inode);
     }
 
     /// unlink: removes the name of a file, and the file where no open file holds it. What refuses the path; ENOENT;
@@ -50,40 +36,15 @@ impl Files {
         ensures { GivesAlways (λ _. tt) result self.new (unlink self.old now from path.now) }
     {
         let last = self.resolve_parent(from, path)?;
-        let entry = self.directories.last_entry(&last, path)?;
+        let entry = self.tree.last_entry(&last, path)?;
         let inode = entry.ok_or(Errno::NoEntry)?;
-        if self.directories.has(inode) {
+        if self.tree.is_directory(inode) {
             return Err(KernelFault::Errno(Errno::IsDirectory));
         }
-        self.drop_name(now, &last);
-        self.unname(inode);
+        let held = self.has_open(inode);
+        self.tree.drop_name(now, &last);
+        self.tree.unname(inode, held);
         Ok(())
-    }
-
-    /// Whether a directory may go. ENOTDIR; ENOTEMPTY; EBUSY for the working directory and for one that an open file
-    /// has.
-    #[tactic(auto, unfolding(crate::specs::Removing::spare))]
-    pub(crate) fn spare(&self, inode: u64) -> Result<(), Errno>
-        ensures { Tells result (spare self.now inode) }
-    {
-        let Some(directory) = self.directories.get(inode) else {
-            return Err(Errno::NotDirectory);
-        };
-        if directory.names.len() != 0 {
-            return Err(Errno::NotEmpty);
-        }
-        if self.working == inode || self.open_files.hold(inode) {
-            return Err(Errno::Busy);
-        }
-        Ok(())
-    }
-
-    /// Drops a directory that lost its name.
-    pub(crate) fn drop_directory(&mut self, inode: u64)
-        ensures { self.new ≡ without_directory self.old inode }
-    {
-        let _directory = self.directories.remove(inode);
-        let _node = self.nodes.remove(inode);
     }
 
     /// rmdir: removes a directory. What refuses the steps to the last name, its length and its place; EINVAL for `.`;
@@ -101,11 +62,11 @@ impl Files {
         if last.name.is_empty() {
             return Err(KernelFault::Errno(Errno::Busy));
         }
-        let entry = self.directories.last_entry(&last, path)?;
+        let entry = self.tree.last_entry(&last, path)?;
         let inode = entry.ok_or(Errno::NoEntry)?;
-        self.spare(inode)?;
-        self.drop_name(now, &last);
-        self.drop_directory(inode);
+        self.tree.spare(inode, self.has_open(inode))?;
+        self.tree.drop_name(now, &last);
+        self.tree.drop_directory(inode);
         Ok(())
     }
 

@@ -27,7 +27,7 @@ impl Files {
         if is_working(from) {
             return Err(Errno::BadAddress);
         }
-        let (_, file) = self.open_file(from)?;
+        let (_, file) = self.open_files.open_file(from)?;
         Ok(file.inode)
     }
 
@@ -45,10 +45,10 @@ impl Files {
     /// utimensat: sets when a file or a directory was last read and when its bytes last changed, to the times given or
     /// to `now`, the real time. Of each time given the nanoseconds may be `UTIME_NOW`, 0x3fffffff, for now, or
     /// `UTIME_OMIT`, 0x3ffffffe, which lets it stay. The time of the change is now in any case. `from` is the descriptor
-    /// of the directory where a path begins that has no slash at its front, or `WORKING`; without a path it is the
+    /// of the directory where a path begins that has no slash at its front, or `AT_FDCWD`; without a path it is the
     /// descriptor of what gets the times. A pipe has none. It takes no memory.
     ///
-    /// EINVAL for a flag other than `AT_SYMLINK_NOFOLLOW`, 0x100; without a path EFAULT for `WORKING` and EBADF; what
+    /// EINVAL for a flag other than `AT_SYMLINK_NOFOLLOW`, 0x100; without a path EFAULT for `AT_FDCWD` and EBADF; what
     /// refuses the path (ENOENT, EBADF, ENOTDIR, ENAMETOOLONG); EINVAL for nanoseconds outside 0 to 999,999,999 that are
     /// neither `UTIME_NOW` nor `UTIME_OMIT`.
     pub fn set_times(
@@ -68,7 +68,7 @@ impl Files {
         if are_bad_times(times) {
             return Err(KernelFault::Errno(Errno::InvalidArgument));
         }
-        self.nodes.retime(inode, now, times);
+        self.tree.retime(inode, now, times);
         Ok(())
     }
 }

@@ -1,64 +1,23 @@
-//! What is told of a file, a directory or a pipe.
+//! What is told of a file, a directory, a pipe or a socket.
 
-ghost use Rattle.std.specs.Prelude.{◌≡◌, ◌^◌, ◌≤◌};
+ghost use Rattle.std.specs.Prelude.{◌≡◌};
 ghost use Rattle.kernel_values.specs.Outcome.{Tells};
-ghost use Rattle.file_store.specs.Status.{allows_empty_path, inode_status, is_status_flags, links_of, path_status, pipe_status, place_status, status, status_at, status_with};
+ghost use Rattle.file_store.specs.Status.{allows_empty_path, is_status_flags, path_status, place_status, status, status_at};
 
-use crate::image::NO_TIME;
 use crate::paths::is_working;
-use crate::state::{Files, Maker};
-use file_tables::{Node, is_of_pipe};
-use kernel_values::{Attributes, Errno, Stat};
+use crate::state::Files;
+use file_tree::{Maker, nameless_status};
+use kernel_values::{Errno, Stat};
+use open_files::{is_of_pipe, is_of_socket};
 
-/// The device that all files are on.
-const DEVICE: u64 = 1;
-/// Bytes that are best moved at once: a page.
-const PAGE: u32 = 4096;
-/// How many blocks of 512 bytes a page takes.
-const PAGE_BLOCKS: u64 = 8;
 /// S_IFIFO and 0600.
 const PIPE_MODE: u32 = 0x1180;
+/// S_IFSOCK and 0777.
+const SOCKET_MODE: u32 = 0xc1ff;
 /// `AT_EMPTY_PATH` of `include/uapi/linux/fcntl.h`: an empty path means the descriptor.
 const EMPTY_PATH: i64 = 0x1000;
 /// The flags that there are: that one, `AT_NO_AUTOMOUNT` 0x800 and `AT_SYMLINK_NOFOLLOW` 0x100.
 const STATUS_FLAGS: i64 = 0x1900;
-
-/// What is told of an inode with these links and this size, in so many blocks of 512 bytes.
-fn status_with(inode: u64, attributes: &Attributes, links: u32, size: u64, blocks: u64) -> Stat
-    requires { size ≤ 2 ^ 40 }
-    ensures { result ≡ status_with inode attributes.now links size blocks }
-{
-    Stat {
-        dev: DEVICE,
-        ino: inode,
-        mode: attributes.mode,
-        nlink: links,
-        uid: attributes.uid,
-        gid: attributes.gid,
-        rdev: 0,
-        size: size as i64,
-        blksize: PAGE,
-        blocks,
-        atime: attributes.accessed,
-        mtime: attributes.modified,
-        ctime: attributes.changed,
-    }
-}
-
-/// A pipe belongs to the owner of the process.
-fn pipe_status(owner: &Maker, inode: u64) -> Stat
-    ensures { result ≡ pipe_status owner.now inode }
-{
-    let attributes = Attributes {
-        mode: PIPE_MODE,
-        uid: owner.uid,
-        gid: owner.gid,
-        accessed: NO_TIME,
-        modified: NO_TIME,
-        changed: NO_TIME,
-    };
-    status_with(inode, &attributes, 1, 0, 0)
-}
 
 /// Whether these are flags of fstatat64.
 fn is_status_flags(flags: i64) -> bool
@@ -75,42 +34,21 @@ fn allows_empty_path(flags: i64) -> bool
 }
 
 impl Files {
-    /// How many names an inode has.
-    #[tactic(auto, unfolding(crate::specs::Status::links_of))]
-    fn links_of(&self, inode: u64, node: &Node) -> u32
-        ensures { result ≡ links_of self.now inode node.now }
-    {
-        match self.directories.get(inode) {
-            Some(directory) => self.directories.directory_links(directory),
-            None if node.has_name => 1,
-            None => 0,
-        }
-    }
-
-    /// What is told of a file or a directory. ENOENT.
-    #[tactic(auto, unfolding(crate::specs::Status::inode_status))]
-    fn inode_status(&self, inode: u64) -> Result<Stat, Errno>
-        ensures { Tells result (inode_status self.now inode) }
-    {
-        let node = self.nodes.get(inode).ok_or(Errno::NoEntry)?;
-        let links = self.links_of(inode, node);
-        let size = self.contents.len(inode);
-        let blocks = PAGE_BLOCKS * self.contents.filled_pages(inode);
-        Ok(status_with(inode, &node.attributes, links, size, blocks))
-    }
-
-    /// fstat and fstat64: what is told of an open file, a directory or a pipe. A pipe belongs to `owner`, and has no
-    /// times. The size is in bytes, and a page of 4,096 bytes takes 8 blocks where it holds a byte other than 0. EBADF. It
+    /// fstat and fstat64: what is told of an open file, a directory, a pipe or a socket. A pipe and a socket belong to `owner`,
+    /// and have no times. The size is in bytes, and a page of 4,096 bytes takes 8 blocks where it holds a byte other than 0. EBADF. It
     /// takes no memory.
     #[tactic(auto, unfolding(crate::specs::Status::status))]
     pub fn status(&self, owner: &Maker, fd: i64) -> Result<Stat, Errno>
         ensures { Tells result (status self.now owner.now fd) }
     {
-        let (_, file) = self.open_file(fd)?;
+        let (_, file) = self.open_files.open_file(fd)?;
         if is_of_pipe(file.kind) {
-            return Ok(pipe_status(owner, file.inode));
+            return Ok(nameless_status(owner, PIPE_MODE, file.inode));
         }
-        self.inode_status(file.inode)
+        if is_of_socket(file.kind) {
+            return Ok(nameless_status(owner, SOCKET_MODE, file.inode));
+        }
+        self.tree.inode_status(file.inode)
     }
 
     /// What is told of a directory descriptor itself, which may be the working directory. EBADF.
@@ -118,7 +56,7 @@ impl Files {
         ensures { Tells result (place_status self.now owner.now from) }
     {
         if is_working(from) {
-            return self.inode_status(self.working);
+            return self.tree.inode_status(self.tree.working());
         }
         self.status(owner, from)
     }
@@ -128,7 +66,7 @@ impl Files {
         ensures { Tells result (path_status self.now from path.now) }
     {
         let inode = self.resolve(from, path)?;
-        self.inode_status(inode)
+        self.tree.inode_status(inode)
     }
 
     /// fstatat64, and without flags stat and stat64: what is told of what a path means, from the directory of a descriptor

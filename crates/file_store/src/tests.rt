@@ -1,5 +1,5 @@
 use super::*;
-use kernel_values::{AbiKind, Answer, KernelFault, OpenFlags, TimeSpec};
+use kernel_values::{AT_FDCWD, AbiKind, Answer, KernelFault, OpenFlags, TimeSpec};
 use std::alloc::Global;
 use std::test::Fail;
 
@@ -66,11 +66,11 @@ fn done(answer: Answer<()>) -> i64 {
 
 impl Desk {
     fn is_free(&self, path: &[u8], inode: u64) -> bool {
-        self.files.is_free_name(path, inode)
+        self.files.tree.is_free_name(path, inode)
     }
 
     fn has_bytes(&self, path: &[u8], offset: u64, count: u64) -> bool {
-        self.files.has_bytes(path, offset, count)
+        self.files.tree.has_bytes(path, offset, count)
     }
 
     // Opens with a word of ia32.
@@ -78,7 +78,7 @@ impl Desk {
         let flags = OpenFlags::from_word(AbiKind::Ia32, word);
         told_number(
             self.files
-                .open_by_path(self.alloc, LIMIT, &MAKER, WORKING, path, flags, 0o644),
+                .open_path(self.alloc, LIMIT, &MAKER, AT_FDCWD, path, flags, 0o644),
         )
     }
 
@@ -99,7 +99,7 @@ impl Desk {
     }
 
     fn duplicate(&mut self, fd: i64) -> i64 {
-        told_number(self.files.duplicate(LIMIT, fd, -1, false))
+        told_number(self.files.open_files.duplicate(LIMIT, fd, -1, false))
     }
 
     fn closes(&mut self, fd: i64) -> bool {
@@ -122,39 +122,43 @@ impl Desk {
     }
 
     fn is_marked(&self, fd: i64) -> bool {
-        match self.files.fd_flags(fd) {
+        match self.files.open_files.fd_flags(fd) {
             Ok(word) => word == 1,
             Err(_) => false,
         }
     }
 
     fn changes_mark(&mut self, fd: i64, word: u32) -> bool {
-        self.files.set_fd_flags(fd, word).is_ok()
+        self.files.open_files.set_fd_flags(fd, word).is_ok()
     }
 
     fn changes_flags(&mut self, fd: i64, word: u32) -> bool {
         let flags = OpenFlags::from_word(AbiKind::Ia32, word);
-        self.files.set_open_flags(fd, flags).is_ok()
+        self.files.open_files.set_open_flags(fd, flags).is_ok()
     }
 
     fn has_flags(&self, fd: i64, word: u32) -> bool {
-        match self.files.open_flags(fd) {
+        match self.files.open_files.open_flags(fd) {
             Ok(flags) => flags.to_word(AbiKind::Ia32) == word,
             Err(_) => false,
         }
     }
 
     fn can_use(&self, fd: i64, read: bool, write: bool) -> bool {
-        self.files.can_use(fd, read, write)
+        self.files.open_files.can_use(fd, read, write)
     }
 
     fn enters(&mut self, path: &[u8]) -> bool {
-        self.files.change_directory(WORKING, path).is_ok()
+        self.files.change_directory(AT_FDCWD, path).is_ok()
     }
 
     // Whether the working directory has this path, in as many bytes as that takes.
     fn is_at(&self, path: &[u8]) -> bool {
-        match self.files.current_directory(self.alloc, path.len() as u64) {
+        match self
+            .files
+            .tree
+            .current_directory(self.alloc, path.len() as u64)
+        {
             Ok(text) => text.as_slice() == path,
             Err(_) => false,
         }

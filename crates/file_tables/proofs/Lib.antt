@@ -1,5 +1,4 @@
 pub mod Slashes
-pub mod Holdings
 pub mod Texts
 pub mod Slots
 pub mod SlabSteps

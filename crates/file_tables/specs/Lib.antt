@@ -2,10 +2,7 @@ pub mod SlabMap
 pub mod Lends
 pub mod Names
 pub mod Entries
-pub mod Made
 pub mod Directories
-pub mod Kinds
-pub mod Holding
 pub mod Numbers
 pub mod Nodes
 pub mod Contained

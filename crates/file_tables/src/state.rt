@@ -1,28 +1,7 @@
 //! The types of the tables alone, so that the definitions may name them.
 
 use crate::table::Table;
-use kernel_values::{Attributes, NameText, OpenFlags, OpenKind};
-
-/// A descriptor.
-#[derive(Clone, Copy, Debug)]
-pub struct Descriptor {
-    /// The serial number of the open file that it names.
-    pub serial: u64,
-    /// The close-on-exec mark.
-    pub cloexec: bool,
-}
-
-/// An open file.
-#[derive(Clone, Copy, Debug)]
-pub struct OpenFile {
-    /// What is open.
-    pub inode: u64,
-    pub kind: OpenKind,
-    /// What it keeps of the flags that it was opened with, as F_GETFL tells them.
-    pub flags: OpenFlags,
-    /// Where the next transfer begins, in bytes, at most 2^40.
-    pub position: u64,
-}
+use kernel_values::{Attributes, NameText};
 
 /// What a file and a directory have in common.
 #[derive(Clone, Copy, Debug)]

@@ -1,9 +1,7 @@
 //! Each table once: what is put into it, found in it and taken out of it.
 
 use super::*;
-use kernel_values::{
-    Attributes, Errno, FileTimes, NameText, OpenFlags, OpenKind, OutOfMemory, TimeSpec,
-};
+use kernel_values::{Attributes, Errno, FileTimes, NameText, OutOfMemory, TimeSpec};
 use std::alloc::Global;
 use std::test::Fail;
 
@@ -30,16 +28,6 @@ const NODE: Node = Node {
     },
     has_name: true,
 };
-
-// An open file of inode 7.
-fn open_file(kind: OpenKind) -> OpenFile {
-    OpenFile {
-        inode: 7,
-        kind,
-        flags: OpenFlags::from_word(kernel_values::AbiKind::Ia32, 0),
-        position: 0,
-    }
-}
 
 #[test]
 fn a_table_has_values_by_number(rt: HostRuntime) -> Result<(), Fail> {
@@ -71,33 +59,6 @@ fn values_in_a_slab_are_told_by_number(rt: HostRuntime) -> Result<(), Fail> {
 }
 
 #[test]
-fn open_files_hold_inodes(rt: HostRuntime) -> Result<(), Fail> {
-    let mut files = SlabMap::new(rt.alloc());
-    files.put(1, open_file(OpenKind::PipeRead))?;
-    assert!(rt; files.hold(7));
-    assert!(rt; files.has_reader(7));
-    assert!(rt; !files.has_writer(7));
-    assert!(rt; !files.hold(1));
-    let mut descriptors = Table::new(rt.alloc());
-    let (serial, cloexec) = (1, false);
-    descriptors.put(0, Descriptor { serial, cloexec })?;
-    assert!(rt; descriptors.names(1));
-    assert!(rt; !descriptors.names(0));
-    Ok(())
-}
-
-#[test]
-fn kinds_are_told_apart(rt: HostRuntime) -> Result<(), Fail> {
-    assert!(rt; is_of_file(OpenKind::File));
-    assert!(rt; is_of_directory(OpenKind::Directory));
-    assert!(rt; is_of_pipe(OpenKind::PipeRead));
-    assert!(rt; is_reader(OpenKind::PipeRead));
-    assert!(rt; is_writer(OpenKind::PipeWrite));
-    assert!(rt; !is_writer(OpenKind::PipeRead));
-    Ok(())
-}
-
-#[test]
 fn numbers_that_the_image_has_are_left_out(rt: HostRuntime) -> Result<(), Fail> {
     let mut image = Table::new(rt.alloc());
     image.put(0x1000, ())?;
@@ -107,17 +68,6 @@ fn numbers_that_the_image_has_are_left_out(rt: HostRuntime) -> Result<(), Fail> 
     };
     assert!(rt; numbers.take() == Ok(0x1001));
     assert!(rt; numbers.take() == Ok(0x1002));
-    Ok(())
-}
-
-#[test]
-fn things_are_counted(rt: HostRuntime) -> Result<(), Fail> {
-    let mut made = Made::new();
-    assert!(rt; made.open_one() == 1);
-    made.count(0x7fff_fffa);
-    assert!(rt; !made.is_full());
-    made.count(1);
-    assert!(rt; made.is_full());
     Ok(())
 }
 

@@ -2,7 +2,7 @@
 use Rattle.std.specs.Prelude.{ℕ, zero, suc, ◌+◌, ◌/◌, ◌^◌, ◌==◌, ◌&&◌, ◌||◌, not, nat_le, if◌then◌else◌, Bool, true, false, List, [], ◌∷◌, length, Option, Some, None, Result, Ok, Err}
 use Rattle.std.specs.Ordering.{nat_cmp}
 use Rattle.std.specs.BTreeSet.{BTreeSet, contains, insert_key, btree_set_len}
-use Rattle.file_store.specs.Image.{fresh_files, is_free_name, has_bytes, image_directory, image_file}
+use Rattle.file_tree.specs.Image.{fresh_tree, is_free_name, has_bytes, image_directory, image_file}
 use Rattle.kernel_values.specs.declared.abi.AbiKind.{AbiKind}
 use Rattle.script_reader.specs.declared.fault.LineCause.{LineCause}
 use Rattle.script_reader.specs.declared.fault.LineCause.TheVariants as causes
@@ -11,7 +11,7 @@ use Rattle.script_reader.specs.declared.seen.Seen.{Seen}
 use Rattle.script_reader.specs.Grammar.{Line, Header, Clock, Who, Usage, Restorer, Page, Dir, File, Bytes, Lock, Poke, Call, Advance, Show, abi_of, read_line, line_of}
 
 abbrev pub new_seen : Seen
-new_seen = record { lines = 0; abi = None; clock = false; who = false; usage = false; restorer = false; begun = false; pages = record { keys = [] }; files = fresh_files }
+new_seen = record { lines = 0; abi = None; clock = false; who = false; usage = false; restorer = false; begun = false; pages = record { keys = [] }; files = fresh_tree }
 
 -- whether the page with this number is mapped
 abbrev pub has_page : BTreeSet ℕ → ℕ → Bool

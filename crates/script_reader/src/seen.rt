@@ -2,14 +2,14 @@
 
 ghost use Rattle.std.specs.Prelude.{◌≡◌, ◌+◌, ◌/◌, ◌^◌, ◌<◌, ◌≤◌, ◌||◌, not, nat_le, length, IfOk, IfSome, OnOk};
 ghost use Rattle.std.specs.BTreeSet.{btree_set_len};
-ghost use Rattle.file_store.specs.Image.{is_free_name, has_bytes, image_directory, image_file};
+ghost use Rattle.file_tree.specs.Image.{is_free_name, has_bytes, image_directory, image_file};
 ghost use Rattle.script_reader.specs.Grammar.{line_of, said_by, IsInRange};
 ghost use Rattle.script_reader.specs.Seen.{new_seen, has_page, is_covered, image_fault, misplaced, seen_with, is_passed, said, line_told, told_by};
 
 use crate::fault::LineCause;
 use crate::grammar::{abi_in, read_line};
 use crate::record::Record;
-use file_store::Files;
+use file_tree::FileTree;
 use kernel_values::{AbiKind, KernelFault, OutOfMemory};
 use std::alloc::Global;
 use std::collections::BTreeSet;
@@ -75,7 +75,7 @@ pub struct Seen {
     /// The numbers of the pages that are mapped.
     pub pages: BTreeSet<u32>,
     /// The directories and files of the image; of their bytes only how many.
-    pub files: Files,
+    pub files: FileTree,
 }
 
 impl Seen {
@@ -83,7 +83,7 @@ impl Seen {
     pub fn new(alloc: Global) -> Result<Seen, OutOfMemory>
         ensures { IfOk result (λ s. s ≡ new_seen) }
     {
-        let files = Files::new(alloc)?;
+        let files = FileTree::new(alloc)?;
         Ok(Seen {
             lines: 0,
             abi: None,

@@ -1,9 +1,8 @@
 //! The order of the items, and what of them ends with the process.
 
 use super::*;
-use crate::WORKING;
-use crate::state::{Maker, Place};
-use kernel_values::{AbiKind, Answer, Lock, OpenFlags, TimeSpec};
+use crate::{Maker, Place};
+use kernel_values::{AT_FDCWD, AbiKind, Answer, Lock, OpenFlags, TimeSpec};
 use std::test::Fail;
 
 const MAKER: Maker = Maker {
@@ -31,10 +30,10 @@ fn opened(alloc: Global) -> Answer<Files> {
     files.image_directory(alloc, b"/d", 6)?;
     files.image_file(alloc, b"/f", 7, 5)?;
     files.image_bytes(alloc, b"/f", 0, b"abc")?;
-    files.change_directory(WORKING, b"/d")?;
+    files.change_directory(AT_FDCWD, b"/d")?;
     let flags = OpenFlags::from_word(AbiKind::Ia32, 0);
-    files.open_by_path(alloc, 9, &MAKER, WORKING, b"/f", flags, 0)?;
-    files.duplicate(9, 0, -1, false)?;
+    files.open_path(alloc, 9, &MAKER, AT_FDCWD, b"/f", flags, 0)?;
+    files.open_files.duplicate(9, 0, -1, false)?;
     files.set_lock(alloc, 0, &READERS)?;
     files.pipe(alloc, 9, 0)?;
     files.write(alloc, MAKER.time, 3, 2, b"xy", Place::Current)?;
@@ -44,18 +43,14 @@ fn opened(alloc: Global) -> Answer<Files> {
 // A letter for the kind of item, and two of its numbers.
 fn label(item: &StateItem) -> (u8, u64, u64) {
     match item {
-        StateItem::WorkingDirectory { inode } => (b'w', *inode, 0),
-        StateItem::Node { inode, size, .. } => (b'n', *inode, *size),
-        StateItem::Name {
-            position,
-            child,
-            ..
-        } => (b'e', *position, *child),
-        StateItem::Bytes { inode, bytes, .. } => (b'b', *inode, bytes.len() as u64),
-        StateItem::Lock { first, last, .. } => (b'l', *first, *last),
-        StateItem::Descriptor { number, serial, .. } => (b'd', *number, *serial),
-        StateItem::OpenFile { serial, inode, .. } => (b'o', *serial, *inode),
-        StateItem::Pipe { inode, bytes } => (b'p', *inode, bytes.len() as u64),
+        StateItem::Working(item) => (b'w', item.inode, 0),
+        StateItem::Node(item) => (b'n', item.inode, item.size),
+        StateItem::Name(item) => (b'e', item.position, item.child),
+        StateItem::Bytes(item) => (b'b', item.inode, item.bytes.len() as u64),
+        StateItem::Lock(item) => (b'l', item.first, item.last),
+        StateItem::Descriptor(item) => (b'd', item.number, item.serial),
+        StateItem::OpenFile(item) => (b'o', item.serial, item.inode),
+        StateItem::Pipe(item) => (b'p', item.inode, item.bytes.len() as u64),
         _ => (b'?', 0, 0),
     }
 }

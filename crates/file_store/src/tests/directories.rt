@@ -6,12 +6,12 @@ impl Desk {
     pub(super) fn makes(&mut self, path: &[u8]) -> i64 {
         done(
             self.files
-                .make_directory(self.alloc, &MAKER, WORKING, path, 0o777),
+                .make_directory(self.alloc, &MAKER, AT_FDCWD, path, 0o777),
         )
     }
 
     pub(super) fn removes(&mut self, path: &[u8], flags: i64) -> i64 {
-        done(self.files.remove(MAKER.time, WORKING, path, flags))
+        done(self.files.remove(MAKER.time, AT_FDCWD, path, flags))
     }
 
     fn renames(&mut self, old: &[u8], new: &[u8]) -> i64 {
@@ -41,7 +41,7 @@ impl Desk {
 
 impl Desk {
     fn position(&self, fd: i64) -> i64 {
-        match self.files.position(fd) {
+        match self.files.open_files.position(fd) {
             Ok(position) => i64::try_from(position).unwrap_or(-1),
             Err(errno) => -i64::from(errno.number()),
         }

@@ -31,11 +31,11 @@ fn third_second(accessed: i64, modified: i64) -> Option<FileTimes> {
 
 impl Desk {
     fn truncates(&mut self, path: &[u8], length: i64) -> i64 {
-        done(self.files.set_length_at(LATER, path, length))
+        done(self.files.truncate(LATER, path, length))
     }
 
     fn cuts(&mut self, fd: i64, length: i64) -> i64 {
-        done(self.files.set_length(LATER, fd, length))
+        done(self.files.truncate_open(LATER, fd, length))
     }
 
     fn allocates(&mut self, fd: i64, mode: i64, offset: i64, count: i64) -> i64 {
@@ -46,7 +46,7 @@ impl Desk {
     fn retimes(&mut self, times: Option<FileTimes>, flags: i64) -> i64 {
         done(
             self.files
-                .set_times(LATER, WORKING, Some(b"/f"), times, flags),
+                .set_times(LATER, AT_FDCWD, Some(b"/f"), times, flags),
         )
     }
 
@@ -56,20 +56,19 @@ impl Desk {
 
     /// Whether file /f was read, modified and changed at these seconds.
     fn has_times(&self, accessed: i64, modified: i64, changed: i64) -> bool {
-        match self.files.nodes.get(7) {
-            Some(node) => {
-                let attributes = &node.attributes;
-                attributes.accessed.seconds == accessed
-                    && attributes.modified.seconds == modified
-                    && attributes.changed.seconds == changed
+        match self.files.tree.inode_status(7) {
+            Ok(stat) => {
+                stat.atime.seconds == accessed
+                    && stat.mtime.seconds == modified
+                    && stat.ctime.seconds == changed
             }
-            None => false,
+            Err(_) => false,
         }
     }
 
     /// How many bytes file /f has.
     fn length(&self) -> u64 {
-        self.files.contents.len(7)
+        self.files.tree.size_of(7)
     }
 }
 
@@ -136,7 +135,7 @@ fn utimensat_refuses_in_order(rt: HostRuntime) -> Result<(), Fail> {
     let mut desk = image(rt.alloc())?;
     // EINVAL, EFAULT, EBADF, EINVAL
     assert!(rt; desk.retimes(None, 1) == -22);
-    assert!(rt; desk.retimes_open(WORKING, third_second(0, -1)) == -14);
+    assert!(rt; desk.retimes_open(AT_FDCWD, third_second(0, -1)) == -14);
     assert!(rt; desk.retimes_open(0, third_second(0, -1)) == -9);
     assert!(rt; desk.retimes(third_second(1_000_000_000, 0), 0x100) == -22);
     assert!(rt; desk.retimes(third_second(OMIT, -1), 0) == -22);

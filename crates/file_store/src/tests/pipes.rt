@@ -1,6 +1,7 @@
 //! The ends of pipes, and what is read from them and written to them.
 
 use super::*;
+use kernel_values::StateItem;
 
 // A pipe alone, with its ends at 0 and 1.
 fn piped(alloc: Global) -> Answer<Desk> {
@@ -20,9 +21,22 @@ impl Desk {
 
     // The inode of the first pipe, or 0.
     fn first_pipe(&self) -> u64 {
-        match self.files.pipes.after(None) {
-            Some((inode, _)) => inode,
-            None => 0,
+        let mut cursor = self.files.first_item();
+        for _ in 0..99 {
+            match self.files.item(self.alloc, cursor) {
+                Ok(Some((StateItem::Pipe(pipe), _))) => return pipe.inode,
+                Ok(Some((_, next))) => cursor = next,
+                Ok(None) | Err(_) => return 0,
+            }
+        }
+        0
+    }
+
+    // The inode of a descriptor, or 0.
+    fn inode_of(&self, fd: i64) -> u64 {
+        match self.files.status(&MAKER, fd) {
+            Ok(stat) => stat.ino,
+            Err(_) => 0,
         }
     }
 
@@ -53,8 +67,8 @@ fn a_pipe_has_two_ends(rt: HostRuntime) -> Result<(), Fail> {
     assert!(rt; desk.has_flags(2, 0x801));
     assert!(rt; desk.is_marked(2));
     assert!(rt; desk.first_pipe() == 0x1000);
-    assert!(rt; desk.files.numbers.next == 0x1001);
     assert!(rt; desk.pipe(LIMIT, 0) == 304);
+    assert!(rt; desk.inode_of(3) == 0x1001);
     assert!(rt; desk.has_flags(3, 0));
     assert!(rt; desk.has_flags(4, 1));
     Ok(())

@@ -22,7 +22,7 @@ impl Desk {
     }
 
     fn told_at(&self, path: &[u8], flags: i64) -> [i64; 4] {
-        numbers(self.files.status_at(&MAKER, WORKING, path, flags))
+        numbers(self.files.status_at(&MAKER, AT_FDCWD, path, flags))
     }
 
     // The seconds of the last reading and writing, and the nanoseconds of the last change.

@@ -1,6 +1,0 @@
-use Rattle.std.proofs.Common.{sym}
-use Rattle.file_store.proofs.Pipings.{pipes_give_always, write_kept}
-use Rattle.file_store.proofs.state.Files.write_pipe.Goals as goal
-
-pub returns-in-Current-clause-gives : goal.returns-in-Current-clause-gives
-returns-in-Current-clause-gives c = rw (c.in-Current.is, sym c.has_reader-has_reader.ensures) (pipes_give_always _ c.args.self.now c.write.result c.write.new.self _ (write_kept _ _ _ _ _ _) c.write.ensures.gives)

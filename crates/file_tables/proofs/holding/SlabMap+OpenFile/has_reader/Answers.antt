@@ -1,9 +1,0 @@
-use Rattle.std.proofs.Common.{sym, ◌∙◌}
-use Rattle.file_tables.proofs.Holdings.{first_reads, later_reads}
-use Rattle.file_tables.proofs.holding.SlabMap+OpenFile.has_reader.Goals as goal
-
-pub returns-then-reads_pipe : goal.returns-then-reads_pipe
-returns-then-reads_pipe c = sym (first_reads _ _ _ _ _ c.in-Some.ensures.entry (sym c.reads_pipe.ensures ∙ c.if-reads_pipe.true)) ∙ c.loop-serial.invariant
-
-pub loop-serial-preserved : goal.loop-serial-preserved
-loop-serial-preserved c = later_reads _ _ _ _ _ c.in-Some.ensures.entry (sym c.reads_pipe.ensures ∙ c.if-reads_pipe.false) ∙ c.loop-serial.invariant

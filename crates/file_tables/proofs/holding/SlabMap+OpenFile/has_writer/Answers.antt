@@ -1,9 +1,0 @@
-use Rattle.std.proofs.Common.{sym, ◌∙◌}
-use Rattle.file_tables.proofs.Holdings.{first_writes, later_writes}
-use Rattle.file_tables.proofs.holding.SlabMap+OpenFile.has_writer.Goals as goal
-
-pub returns-then-writes_pipe : goal.returns-then-writes_pipe
-returns-then-writes_pipe c = sym (first_writes _ _ _ _ _ c.in-Some.ensures.entry (sym c.writes_pipe.ensures ∙ c.if-writes_pipe.true)) ∙ c.loop-serial.invariant
-
-pub loop-serial-preserved : goal.loop-serial-preserved
-loop-serial-preserved c = later_writes _ _ _ _ _ c.in-Some.ensures.entry (sym c.writes_pipe.ensures ∙ c.if-writes_pipe.false) ∙ c.loop-serial.invariant

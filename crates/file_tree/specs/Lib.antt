@@ -1,0 +1,13 @@
+pub mod Contents
+pub mod OwnLocks
+pub mod Paths
+pub mod Making
+pub mod Lengths
+pub mod Removing
+pub mod Renaming
+pub mod Locks
+pub mod Listing
+pub mod Status
+pub mod Working
+pub mod Image
+pub mod Items

@@ -1,0 +1,9 @@
+pub mod Made
+pub mod Kinds
+pub mod Holding
+pub mod Descriptors
+pub mod Numbers
+pub mod Flags
+pub mod Transfers
+pub mod Piping
+pub mod Items
