@@ -1,7 +1,7 @@
 -- What an open file is of.
 use Rattle.std.specs.Prelude.{Bool, true, false}
 use Rattle.kernel_values.specs.declared.items.OpenKind.{OpenKind}
-use Rattle.kernel_values.specs.declared.items.OpenKind.TheVariants.{File, Directory, PipeRead, PipeWrite}
+use Rattle.kernel_values.specs.declared.items.OpenKind.TheVariants.{File, Directory, PipeRead, PipeWrite, Stream, Datagram, RuleSocket}
 
 -- an open file is of a directory
 abbrev pub is_of_directory : OpenKind → Bool
@@ -9,6 +9,9 @@ is_of_directory File = false
 is_of_directory Directory = true
 is_of_directory PipeRead = false
 is_of_directory PipeWrite = false
+is_of_directory Stream = false
+is_of_directory Datagram = false
+is_of_directory RuleSocket = false
 
 -- an open file is an end of a pipe
 abbrev pub is_of_pipe : OpenKind → Bool
@@ -16,6 +19,9 @@ is_of_pipe File = false
 is_of_pipe Directory = false
 is_of_pipe PipeRead = true
 is_of_pipe PipeWrite = true
+is_of_pipe Stream = false
+is_of_pipe Datagram = false
+is_of_pipe RuleSocket = false
 
 -- an open file is of a file with bytes
 abbrev pub is_of_file : OpenKind → Bool
@@ -23,6 +29,9 @@ is_of_file File = true
 is_of_file Directory = false
 is_of_file PipeRead = false
 is_of_file PipeWrite = false
+is_of_file Stream = false
+is_of_file Datagram = false
+is_of_file RuleSocket = false
 
 -- an open file is the end of a pipe that is read from
 abbrev pub is_reader : OpenKind → Bool
@@ -30,6 +39,9 @@ is_reader File = false
 is_reader Directory = false
 is_reader PipeRead = true
 is_reader PipeWrite = false
+is_reader Stream = false
+is_reader Datagram = false
+is_reader RuleSocket = false
 
 -- an open file is the end of a pipe that is written to
 abbrev pub is_writer : OpenKind → Bool
@@ -37,3 +49,6 @@ is_writer File = false
 is_writer Directory = false
 is_writer PipeRead = false
 is_writer PipeWrite = true
+is_writer Stream = false
+is_writer Datagram = false
+is_writer RuleSocket = false

@@ -11,7 +11,12 @@ pub fn is_of_directory(kind: OpenKind) -> bool
 {
     match kind {
         OpenKind::Directory => true,
-        OpenKind::File | OpenKind::PipeRead | OpenKind::PipeWrite => false,
+        OpenKind::File
+        | OpenKind::PipeRead
+        | OpenKind::PipeWrite
+        | OpenKind::Stream
+        | OpenKind::Datagram
+        | OpenKind::RuleSocket => false,
     }
 }
 
@@ -21,7 +26,11 @@ pub fn is_of_pipe(kind: OpenKind) -> bool
 {
     match kind {
         OpenKind::PipeRead | OpenKind::PipeWrite => true,
-        OpenKind::File | OpenKind::Directory => false,
+        OpenKind::File
+        | OpenKind::Directory
+        | OpenKind::Stream
+        | OpenKind::Datagram
+        | OpenKind::RuleSocket => false,
     }
 }
 
@@ -31,7 +40,12 @@ pub fn is_of_file(kind: OpenKind) -> bool
 {
     match kind {
         OpenKind::File => true,
-        OpenKind::Directory | OpenKind::PipeRead | OpenKind::PipeWrite => false,
+        OpenKind::Directory
+        | OpenKind::PipeRead
+        | OpenKind::PipeWrite
+        | OpenKind::Stream
+        | OpenKind::Datagram
+        | OpenKind::RuleSocket => false,
     }
 }
 
@@ -41,7 +55,12 @@ pub fn is_reader(kind: OpenKind) -> bool
 {
     match kind {
         OpenKind::PipeRead => true,
-        OpenKind::File | OpenKind::Directory | OpenKind::PipeWrite => false,
+        OpenKind::File
+        | OpenKind::Directory
+        | OpenKind::PipeWrite
+        | OpenKind::Stream
+        | OpenKind::Datagram
+        | OpenKind::RuleSocket => false,
     }
 }
 
@@ -51,6 +70,11 @@ pub fn is_writer(kind: OpenKind) -> bool
 {
     match kind {
         OpenKind::PipeWrite => true,
-        OpenKind::File | OpenKind::Directory | OpenKind::PipeRead => false,
+        OpenKind::File
+        | OpenKind::Directory
+        | OpenKind::PipeRead
+        | OpenKind::Stream
+        | OpenKind::Datagram
+        | OpenKind::RuleSocket => false,
     }
 }
