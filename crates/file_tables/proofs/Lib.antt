@@ -5,3 +5,6 @@ pub mod SlabSteps
 pub mod Lines
 pub mod Insides
 pub mod LinkSums
+pub mod NameEntries
+pub mod Lookups
+pub mod NameSteps

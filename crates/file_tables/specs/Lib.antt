@@ -2,6 +2,8 @@ pub mod SlabMap
 pub mod Lends
 pub mod Names
 pub mod Entries
+pub mod NameIndex
+pub mod NameTable
 pub mod Directories
 pub mod Numbers
 pub mod Nodes

@@ -4,7 +4,8 @@ ghost use Rattle.std.specs.Prelude.{◌≡◌, ℕ, ◌+◌, [], OnOk};
 ghost use Rattle.file_tables.specs.Entries.{named};
 ghost use Rattle.file_tables.specs.Contained.{empty_directory, entered, left, with_entry, without_entry};
 
-use crate::state::{Directory, Entry};
+use crate::name_table::NameTable;
+use crate::state::Directory;
 use crate::table::Table;
 use kernel_values::{NameText, OutOfMemory};
 use std::alloc::Global;
@@ -17,7 +18,7 @@ impl Directory {
         Directory {
             parent,
             last: 2,
-            names: Table::new(alloc),
+            names: NameTable::new(alloc),
         }
     }
 
@@ -29,16 +30,14 @@ impl Directory {
             return Err(OutOfMemory);
         };
         self.last = position;
-        self.names.put(position, Entry { name, child })
+        self.names.put(position, name, child)
     }
 
     /// Takes a name out, where it is there.
     fn take_out(&mut self, name: &[u8])
         ensures { self.new ≡ without_entry self.old (named self.old.names name.now) }
     {
-        if let Some((position, _)) = self.names.find_name(name) {
-            let _entry = self.names.remove(position);
-        }
+        self.names.remove(name);
     }
 }
 

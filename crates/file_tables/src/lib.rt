@@ -4,6 +4,8 @@
 mod directories;
 mod links;
 mod listing;
+mod name_index;
+mod name_table;
 mod names;
 mod nodes;
 mod numbers;
@@ -17,6 +19,7 @@ mod times;
 mod walk;
 
 pub use listing::Line;
+pub use name_table::NameTable;
 pub use names::{ends_with_slash, is_absolute};
 pub use path_texts::{ROOT, append, path_text};
 pub use slab_map::SlabMap;

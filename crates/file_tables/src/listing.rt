@@ -4,7 +4,8 @@ ghost use Rattle.std.specs.Prelude.{◌≡◌, ◌<◌, ◌∷◌, [], map, IfOk
 ghost use Rattle.file_tables.specs.Listing.{entry_kind, line_of, lines, told};
 ghost use Rattle.number_maps.specs.NumberMap.{after_key};
 
-use crate::state::{Directory, Entry};
+use crate::name_table::NameTable;
+use crate::state::Directory;
 use crate::table::Table;
 use kernel_values::{DirEntry, NameText, OutOfMemory};
 use std::alloc::Global;
@@ -24,7 +25,7 @@ pub struct Line<'a> {
     pub inode: u64,
 }
 
-impl Table<Entry> {
+impl NameTable {
     /// The line of the first entry at a greater position.
     fn line_after(&self, position: u64) -> Option<Line<'_>>
         ensures line { MatchOption result (map line_of (after_key self.now position) ≡ [])

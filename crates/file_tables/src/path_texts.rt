@@ -1,7 +1,7 @@
 //! The path of a directory.
 
-ghost use Rattle.std.specs.Prelude.{◌≡◌, ℕ, ◌-◌, ◌+◌, ◌++◌, ◌∷◌, [], length, IfOk, OnOk};
-ghost use Rattle.file_tables.specs.PathTexts.{name_in, path_text, text_up};
+ghost use Rattle.std.specs.Prelude.{◌≡◌, ℕ, ◌-◌, ◌+◌, ◌++◌, ◌∷◌, [], length, IfOk, OnOk, option_map};
+ghost use Rattle.file_tables.specs.PathTexts.{name_in, path_text, short_text, text_up};
 
 use crate::state::Directory;
 use crate::table::Table;
@@ -10,6 +10,8 @@ use std::alloc::Global;
 
 /// The inode number of the root.
 pub const ROOT: u64 = 2;
+/// `PATH_MAX` of `include/uapi/linux/limits.h`, less the zero at the end: the most bytes of a path.
+const PATH_MAX: usize = 4095;
 
 /// Puts bytes behind a text. On an Err nothing is said of the text.
 pub fn append(text: &mut Vec<u8>, bytes: &[u8]) -> Result<(), OutOfMemory>
@@ -64,22 +66,25 @@ impl Table<Directory> {
         Ok(whole)
     }
 
-    /// The names from the root to the directory `place`, each after a slash: no bytes for the root. One look-up for each directory on
-    /// the way, and one pass over the names in it.
+    /// The names from the root to the directory `place`, each after a slash: no bytes for the root. None where they have more
+    /// than 4,095 bytes, which ends the way up. One look-up for each directory on the way, and one pass over the names in it.
     #[tactic(auto, using(crate::proofs::Texts::text_end, crate::proofs::Texts::text_root, crate::proofs::Texts::text_next))]
-    pub fn text_up(&self, alloc: Global, place: u64) -> Result<Vec<u8>, OutOfMemory>
-        ensures { IfOk result (λ v. v.items ≡ text_up self.now place [] (length self.now)) }
+    pub fn text_up(&self, alloc: Global, place: u64) -> Result<Option<Vec<u8>>, OutOfMemory>
+        ensures { IfOk result (λ v. option_map (λ t. t.items) v ≡ short_text (text_up self.now place [] (length self.now))) }
     {
         let mut text = Vec::new(alloc);
         let mut above = place;
         for step in 0..self.len() {
             if above == ROOT {
-                return Ok(text);
+                return Ok(Some(text));
             }
             let parent = self.parent_of(above);
             text = self.longer(alloc, parent, above, &text)?;
+            if text.len() > PATH_MAX {
+                return Ok(None);
+            }
             above = parent;
         }
-        Ok(text)
+        Ok(Some(text))
     }
 }

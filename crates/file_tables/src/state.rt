@@ -1,5 +1,6 @@
 //! The types of the tables alone, so that the definitions may name them.
 
+use crate::name_table::NameTable;
 use crate::table::Table;
 use kernel_values::{Attributes, NameText};
 
@@ -27,7 +28,7 @@ pub struct Directory {
     /// The last position given to a name, so that none is given again.
     pub last: u64,
     /// The entries by position. `.` and `..` stand at 1 and 2 and aren't among them.
-    pub names: Table<Entry>,
+    pub names: NameTable,
 }
 
 /// The place that the steps of a path to its last name lead to, and that name.

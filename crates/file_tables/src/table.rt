@@ -1,10 +1,8 @@
 //! Finite maps from numbers.
 
 ghost use Rattle.std.specs.Prelude.{◌≡◌, ℕ, [], List, length, OnOk, OnErr, IfNone, IfSome, Option, Some, None, IsSome, option_copied, option_map, is_some, MatchOption, OnSome, ◌<◌, ◌^◌, drop, ◌+◌, ◌-◌, ◌∷◌};
-ghost use Rattle.std.specs.Str.{bytes_eq};
-ghost use Rattle.std.specs.Map.Iter.{deref_pair};
 ghost use Rattle.number_maps.specs.NumberMap.{IsAscending, after, after_key, at, first_free, put, removed};
-ghost use Rattle.file_tables.specs.Entries.{entry_for, named};
+ghost use Rattle.file_tables.specs.Entries.{entry_for};
 
 use crate::state::Entry;
 use kernel_values::OutOfMemory;
@@ -101,6 +99,16 @@ impl<V> Table<V> {
     {
         self.map.remove(&key)
     }
+
+    /// Drops the value of a key.
+    pub(crate) fn discard(&mut self, key: u64)
+    where
+        V: Drop,
+        ensures after { self.new ≡ removed self.old key }
+        ensures ascending { IsAscending self.new }
+    {
+        let _value = self.remove(key);
+    }
 }
 
 impl<V> Table<V> {
@@ -120,27 +128,8 @@ impl<V> Table<V> {
 }
 
 impl Table<Entry> {
-    /// The entry with a name, and its position.
-    fn entry_named(&self, name: &[u8]) -> Option<(&u64, &Entry)>
-        ensures { option_map deref_pair result ≡ named self.now name.now }
-    {
-        self.map.iter().find(
-            |entry|
-                ensures { result ≡ bytes_eq entry.now.1.now.name name.entry.now }
-            { entry.1.name.as_slice() == name },
-        )
-    }
-
-    /// The position of the entry with a name, and what it means.
-    pub fn find_name(&self, name: &[u8]) -> Option<(u64, u64)>
-        ensures { result ≡ option_map (λ (e : ℕ × Entry). (e.0, e.1.child)) (named self.now name.now) }
-    {
-        let (position, entry) = self.entry_named(name)?;
-        Some((*position, entry.child))
-    }
-
     /// The first entry that means an inode.
-    pub fn find_child(&self, child: u64) -> Option<&Entry>
+    pub(crate) fn find_child(&self, child: u64) -> Option<&Entry>
         ensures { option_copied result ≡ entry_for self.now child }
     {
         self.map.values().find(|entry| entry.child == child)
