@@ -1,0 +1,11 @@
+pub mod Text
+pub mod Fields
+pub mod Report
+pub mod Clocks
+pub mod Limits
+pub mod Signals
+pub mod Tree
+pub mod OpenFiles
+pub mod Sockets
+pub mod Rules
+pub mod Items
