@@ -1,4 +1,3 @@
-pub mod Text
 pub mod StateText
 pub mod Machine
 pub mod Run

@@ -20,7 +20,7 @@ use Rattle.compat_calls.specs.Trap.{Trapped, trapped}
 use Rattle.script_reader.specs.Grammar as lines
 use Rattle.script_reader.specs.Grammar.{Line}
 use Rattle.replay_command.specs.declared.machine.Machine.{Machine}
-use Rattle.replay_command.specs.Text.{call_text, changes_text, end_text, gone_text}
+use Rattle.report_text.specs.Report.{call_text, changes_text, end_text, gone_text}
 use Rattle.replay_command.specs.StateText.{state_text}
 
 -- the machine afterwards, and what was written

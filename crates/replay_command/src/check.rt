@@ -3,10 +3,10 @@
 ghost use Rattle.replay_command.specs.Run.{checked_of};
 ghost use Rattle.replay_command.specs.Wrote.{Ran};
 
-use crate::report::put_ok;
 use crate::status::Status;
 use crate::stop::{Stop, end_at};
 use io_edge::Source;
+use report_text::put_ok;
 use script_reader::Script;
 use std::alloc::Global;
 

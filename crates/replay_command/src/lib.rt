@@ -10,7 +10,6 @@ mod state;
 mod status;
 mod stop;
 mod stream;
-mod text;
 mod top;
 
 pub use status::Status;

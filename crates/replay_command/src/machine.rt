@@ -2,12 +2,13 @@
 
 ghost use Rattle.std.specs.Prelude.{◌≡◌, ◌+◌, ◌^◌, ◌<◌, ◌≤◌, ◌%◌, length, IfOk, OnOk};
 
-use crate::report::{put_call, put_changes, put_end, put_gone};
+use crate::report::{put_called, put_changes};
 use crate::state::put_state;
 use abi_registers::Registers;
 use compat_calls::{World, trap_by_kind};
 use kernel_values::{AbiKind, Credentials, KernelFault, OutOfMemory, Usage};
 use native_kernel::Identity;
+use report_text::{put_end, put_gone};
 use script_reader::Record;
 use std::alloc::Global;
 use user_memory::{MapFault, Rights};
@@ -217,7 +218,7 @@ impl Machine {
         }
         self.world.memory.clear_changes();
         let after = trap_by_kind(alloc, &mut self.world, registers)?;
-        put_call(alloc, out, self.calls, registers, &after)?;
+        put_called(alloc, out, self.calls, registers, &after)?;
         put_changes(alloc, out, &self.world.memory)?;
         put_end(alloc, out, self.world.kernel.ended())
     }

@@ -2,9 +2,9 @@
 
 ghost use Rattle.replay_command.specs.Wrote.{EndsAt};
 
-use crate::report::put_bad;
 use crate::status::Status;
 use kernel_values::OutOfMemory;
+use report_text::put_bad;
 use script_reader::ScriptFault;
 use std::alloc::Global;
 
