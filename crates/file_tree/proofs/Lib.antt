@@ -1,1 +1,2 @@
 pub mod FileItems
+pub mod WorkingTexts

@@ -1,6 +1,6 @@
 //! The working directory.
 
-ghost use Rattle.std.specs.Prelude.{◌≡◌, ◌≤◌, length, IfOk};
+ghost use Rattle.std.specs.Prelude.{◌≡◌, ◌≤◌, length, IfOk, IfSome, option_map};
 ghost use Rattle.kernel_values.specs.Outcome.{GivesTold};
 ghost use Rattle.file_tables.specs.PathTexts.{path_text};
 ghost use Rattle.file_tree.specs.Working.{current_directory, with_working, working_text};
@@ -9,9 +9,6 @@ use crate::state::FileTree;
 use file_tables::{append, path_text};
 use kernel_values::{Answer, Errno, KernelFault, OutOfMemory};
 use std::alloc::Global;
-
-/// `PATH_MAX` of `include/uapi/linux/limits.h`, less the zero at the end.
-const PATH_MAX: usize = 4095;
 
 impl FileTree {
     /// The inode of the working directory.
@@ -29,12 +26,16 @@ impl FileTree {
         self.working = inode;
     }
 
-    #[tactic(auto, unfolding(crate::specs::Working::working_text))]
-    fn working_text(&self, alloc: Global) -> Result<Vec<u8>, OutOfMemory>
-        ensures { IfOk result (λ v. v.items ≡ working_text self.now) }
+    /// The path of the working directory. None where its names have more than 4,095 bytes.
+    #[tactic(auto, unfolding(crate::specs::Working::working_text), using(crate::proofs::WorkingTexts::short_path))]
+    fn working_text(&self, alloc: Global) -> Result<Option<Vec<u8>>, OutOfMemory>
+        ensures text { IfOk result (λ v. option_map (λ t. t.items) v ≡ working_text self.now) }
+        ensures short { IfOk result (λ v. IfSome v (λ t. length t.items ≤ 4095)) }
     {
-        let text = self.directories.text_up(alloc, self.working)?;
-        path_text(text)
+        let Some(text) = self.directories.text_up(alloc, self.working)? else {
+            return Ok(None);
+        };
+        Ok(Some(path_text(text)?))
     }
 
     /// getcwd: the path of the working directory, with a zero at its end. ENAMETOOLONG where that is more than
@@ -44,10 +45,9 @@ impl FileTree {
         ensures told { GivesTold (λ v. v.items) result (current_directory self.now size) }
         ensures length { IfOk result (λ v. length v.items ≤ 4096) }
     {
-        let mut text = self.working_text(alloc)?;
-        if text.len() > PATH_MAX {
+        let Some(mut text) = self.working_text(alloc)? else {
             return Err(KernelFault::Errno(Errno::NameTooLong));
-        }
+        };
         if text.len() as u64 + 1 > size {
             return Err(KernelFault::Errno(Errno::OutOfRange));
         }
