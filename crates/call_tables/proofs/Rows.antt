@@ -6,11 +6,11 @@ use Rattle.call_tables.specs.declared.table.Entry.{Entry}
 use Rattle.call_tables.specs.Calls.{Line}
 use Rattle.call_tables.specs.Rows.{CallRow, row_in, line_seen, lines_seen}
 
-row_before : (abi : AbiKind) (number : ℕ) (ls ms : List Line) (r : CallRow) → row_in abi number ls ≡ Some r → row_in abi number (ls ++ ms) ≡ Some r
+pub row_before : (abi : AbiKind) (number : ℕ) (ls ms : List Line) (r : CallRow) → row_in abi number ls ≡ Some r → row_in abi number (ls ++ ms) ≡ Some r
 row_before abi number [] ms r found = grind arith
 row_before abi number (l ∷ ls) ms r found = grind (arith, row_before abi number ls ms r)
 
-row_after : (abi : AbiKind) (number : ℕ) (ls ms : List Line) → row_in abi number ls ≡ None → row_in abi number (ls ++ ms) ≡ row_in abi number ms
+pub row_after : (abi : AbiKind) (number : ℕ) (ls ms : List Line) → row_in abi number ls ≡ None → row_in abi number (ls ++ ms) ≡ row_in abi number ms
 row_after abi number [] ms missing = grind arith
 row_after abi number (l ∷ ls) ms missing = grind (arith, row_after abi number ls ms)
 
@@ -27,4 +27,4 @@ pub found_later : (abi : AbiKind) (number : ℕ) (tables : List (Bor (List Entry
     → row_in abi number (lines_seen (drop i tables)) ≡ row_in abi number (lines_seen (drop (i + 1) tables))
 found_later abi number tables i d within missing = rw (lines_from tables i d within) (row_after abi number _ _ missing)
 
-pub ruleset rows = (found_here, found_later)
+pub ruleset rows = (row_before, row_after, found_here, found_later)

@@ -132,7 +132,14 @@ identity_calls =
     line (Identity identity.Getuid32) (codes "getuid32") (Both 199) [] ∷  -- getuid32()
     []
 
--- all lines
+-- the calls on files
+unfoldable pub file_calls : List Line
+file_calls =
+    path_calls ++ name_calls ++ descriptor_calls ++ pipe_calls ++ transfer_calls ++ listing_calls ++ status_calls ++ retiming_calls ++ length_calls
+
+-- all other calls
+unfoldable pub other_calls : List Line
+other_calls = time_calls ++ limit_calls ++ identity_calls
+
 abbrev pub calls : List Line
-calls =
-    path_calls ++ name_calls ++ descriptor_calls ++ pipe_calls ++ transfer_calls ++ listing_calls ++ status_calls ++ retiming_calls ++ length_calls ++ time_calls ++ limit_calls ++ identity_calls
+calls = file_calls ++ other_calls

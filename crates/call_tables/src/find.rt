@@ -4,7 +4,7 @@ ghost use Rattle.std.specs.List.{list_all};
 ghost use Rattle.call_tables.specs.Rows.{are_words, fits, line_seen, lines_differ, lines_fit, lines_seen, number_in, row, row_in, row_of_line, row_seen};
 
 use crate::operation::Operation;
-use crate::table::{Entry, Numbers, TABLES};
+use crate::table::{Entry, Numbers, file_tables, other_tables};
 use abi_registers::Form;
 use kernel_values::AbiKind;
 
@@ -80,18 +80,18 @@ fn row_among(abi: AbiKind, number: u32, tables: &[&[Entry]]) -> Option<Row>
 /// The row of a call's number, by `arch/x86/entry/syscalls/syscall_32.tbl` or
 /// `arch/arm/tools/syscall.tbl`. None exactly where no line has this number in this ABI; arm's private
 /// calls, from `0xf0000` on, are among those.
-#[tactic(auto, unfolding(crate::specs::Rows::row))]
+#[tactic(auto, using(crate::proofs::Rows::rows), unfolding(crate::specs::Rows::row))]
 pub fn find_row(abi: AbiKind, number: u32) -> Option<Row>
     ensures row { option_map row_seen result ≡ row abi number }
     ensures fits { IfSome result (λ r. r.count ≤ 6) }
     ensures unused { IfSome result (λ r. IsTrue (are_words (drop r.count r.forms))) }
 {
-    row_among(abi, number, TABLES)
+    row_among(abi, number, file_tables()).or_else(|| row_among(abi, number, other_tables()))
 }
 
 /// The law of the lines: none has more than six arguments, and no two have the same number in one
 /// ABI.
-#[tactic(auto, unfolding(crate::specs::Rows::lines_fit, crate::specs::Rows::lines_differ))]
+#[tactic(auto, unfolding(crate::specs::Calls::file_calls, crate::specs::Calls::other_calls, crate::specs::Rows::lines_fit, crate::specs::Rows::lines_differ))]
 fn law_of_lines()
     ensures fit { IsTrue lines_fit }
     ensures on_ia32 { IsTrue (lines_differ AbiKind.Ia32) }

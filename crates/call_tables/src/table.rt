@@ -2,7 +2,13 @@
 //! of Linux number them.
 //!
 //! Each call has one line, in the table of its kind. A table stays below twenty lines or so, since a
-//! constant of a hundred is too large to be proved.
+//! constant of a hundred is too large to be proved. So is the equation of some eighty lines with the
+//! definition's, which is why files and all other calls have one each.
+ghost use Rattle.std.specs.Prelude.{◌≡◌, IsTrue};
+ghost use Rattle.std.specs.List.{list_all};
+ghost use Rattle.call_tables.specs.Calls.{file_calls, other_calls};
+ghost use Rattle.call_tables.specs.Rows.{fits, lines_seen};
+
 use crate::operation::DescriptorOperation::*;
 use crate::operation::FileOperation::*;
 use crate::operation::IdentityOperation::*;
@@ -52,8 +58,7 @@ const S: Form = Form::Signed;
 /// An unsigned word or a pointer, or no argument.
 const W: Form = Form::Word;
 
-/// All tables. A look-up goes over them in this order.
-pub const TABLES: &[&[Entry]] = &[
+const FILE_TABLES: &[&[Entry]] = &[
     PATHS,
     NAMES,
     DESCRIPTORS,
@@ -63,10 +68,27 @@ pub const TABLES: &[&[Entry]] = &[
     STATUS,
     RETIMING,
     LENGTHS,
-    TIMES,
-    LIMITS,
-    IDENTITY,
 ];
+
+const OTHER_TABLES: &[&[Entry]] = &[TIMES, LIMITS, IDENTITY];
+
+/// The tables of the calls on files.
+#[tactic(auto, unfolding(crate::specs::Calls::file_calls))]
+pub fn file_tables() -> &'static [&'static [Entry]]
+    ensures lines { lines_seen result.now ≡ file_calls }
+    ensures fit { IsTrue (list_all (λ t. list_all fits t.now) result.now) }
+{
+    FILE_TABLES
+}
+
+/// The tables of all other calls.
+#[tactic(auto, unfolding(crate::specs::Calls::other_calls))]
+pub fn other_tables() -> &'static [&'static [Entry]]
+    ensures lines { lines_seen result.now ≡ other_calls }
+    ensures fit { IsTrue (list_all (λ t. list_all fits t.now) result.now) }
+{
+    OTHER_TABLES
+}
 
 #[rattlefmt::skip]
 const PATHS: &[Entry] = &[
