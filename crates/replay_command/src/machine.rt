@@ -240,7 +240,7 @@ impl Machine {
         entry: Record,
     ) -> Result<(), OutOfMemory>
         requires calls { self.old.calls < 2 ^ 63 }
-        requires page { IsInRange (line_of entry) }
+        requires range { IsInRange (line_of entry) }
         ensures done { OnOk result (Did (applied self.old (line_of entry)) self.new out.old.items out.new.items) }
         ensures calls { self.new.calls ≤ self.old.calls + 1 }
     {

@@ -25,6 +25,22 @@ unfoldable pub after_field : List ℕ → Option (List ℕ)
 after_field [] = None
 after_field (b ∷ bs) = if b == 32 then Some bs else after_field bs
 
+-- the field in front, and all behind its space
+unfoldable pub two_fields : List ℕ → Option (List ℕ × List ℕ)
+two_fields line = after_field line >>= λ rest. Some (first_field line, rest)
+
+-- the two fields in front, and all behind their spaces
+unfoldable pub three_fields : List ℕ → Option (List ℕ × List ℕ × List ℕ)
+three_fields line = after_field line >>= λ rest. two_fields rest >>= λ f. Some (first_field line, f.0, f.1)
+
+-- the three fields in front, and all behind their spaces
+unfoldable pub four_fields : List ℕ → Option (List ℕ × List ℕ × List ℕ × List ℕ)
+four_fields line = after_field line >>= λ rest. three_fields rest >>= λ f. Some (first_field line, f.0, f.1, f.2)
+
+-- the four fields in front, and all behind their spaces
+unfoldable pub five_fields : List ℕ → Option (List ℕ × List ℕ × List ℕ × List ℕ × List ℕ)
+five_fields line = after_field line >>= λ rest. four_fields rest >>= λ f. Some (first_field line, f.0, f.1, f.2, f.3)
+
 -- the value of a hexadecimal digit of either case
 abbrev pub digit : ℕ → Option ℕ
 digit c =

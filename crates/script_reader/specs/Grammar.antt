@@ -11,9 +11,11 @@ use Rattle.script_reader.specs.declared.fault.LineCause.{LineCause}
 use Rattle.script_reader.specs.declared.fault.LineCause.TheVariants as causes
 use Rattle.script_reader.specs.declared.grammar.Keyword.{Keyword}
 use Rattle.script_reader.specs.declared.grammar.Keyword.TheVariants as keywords
+use Rattle.script_reader.specs.declared.grammar.Said.{Said}
+use Rattle.script_reader.specs.declared.grammar.Said.TheVariants as answers
 use Rattle.script_reader.specs.declared.record.Record.{Record}
 use Rattle.script_reader.specs.declared.record.Record.TheVariants as records
-use Rattle.script_reader.specs.Fields.{◌>>=◌, same, first_field, after_field, number, word, clock, count, fields_in, data_of, path_of, inode_of, size_of, number_below}
+use Rattle.script_reader.specs.Fields.{◌>>=◌, same, first_field, after_field, two_fields, three_fields, four_fields, five_fields, number, word, clock, count, fields_in, data_of, path_of, inode_of, size_of, number_below}
 
 -- what a line says
 pub data Line : Type 0 where
@@ -52,9 +54,9 @@ line_of records.Show = Show
 -- two clocks
 unfoldable pub clock_line : List ℕ → Option Line
 clock_line rest =
-    after_field rest >>= λ second.
-    clock (first_field rest) >>= λ real.
-    clock second >>= λ monotonic.
+    two_fields rest >>= λ f.
+    clock f.0 >>= λ real.
+    clock f.1 >>= λ monotonic.
     Some (Clock real monotonic)
 
 -- the number of a process: at least 1, and below the greatest that Linux gives, 2^22
@@ -68,13 +70,11 @@ privilege_of cs = if same cs (codes "0") then Some false else (if same cs (codes
 -- a process, its user and its group, and the privilege
 unfoldable pub who_line : List ℕ → Option Line
 who_line rest =
-    after_field rest >>= λ second.
-    after_field second >>= λ third.
-    after_field third >>= λ fourth.
-    pid_of (first_field rest) >>= λ pid.
-    word (first_field second) >>= λ uid.
-    word (first_field third) >>= λ gid.
-    privilege_of fourth >>= λ privileged.
+    four_fields rest >>= λ f.
+    pid_of f.0 >>= λ pid.
+    word f.1 >>= λ uid.
+    word f.2 >>= λ gid.
+    privilege_of f.3 >>= λ privileged.
     Some (Who (record { pid = pid; uid = uid; gid = gid }) privileged)
 
 -- the 18 numbers of a usage
@@ -95,39 +95,36 @@ page_of at writable bytes = if (at % 4096 == 0) && nat_le (length bytes) 4096 th
 -- an address, rights and bytes
 unfoldable pub page_line : List ℕ → Option Line
 page_line rest =
-    after_field rest >>= λ second.
-    after_field second >>= λ third.
-    word (first_field rest) >>= λ at.
-    rights_of (first_field second) >>= λ writable.
-    data_of third >>= λ bytes.
+    three_fields rest >>= λ f.
+    word f.0 >>= λ at.
+    rights_of f.1 >>= λ writable.
+    data_of f.2 >>= λ bytes.
     page_of at writable bytes
 
 -- a path and an inode
 unfoldable pub dir_line : List ℕ → Option Line
 dir_line rest =
-    after_field rest >>= λ second.
-    inode_of second >>= λ inode.
-    path_of (first_field rest) >>= λ path.
+    two_fields rest >>= λ f.
+    path_of f.0 >>= λ path.
+    inode_of f.1 >>= λ inode.
     Some (Dir path inode)
 
 -- a path, an inode and a size
 unfoldable pub file_line : List ℕ → Option Line
 file_line rest =
-    after_field rest >>= λ second.
-    after_field second >>= λ third.
-    inode_of (first_field second) >>= λ inode.
-    size_of third >>= λ size.
-    path_of (first_field rest) >>= λ path.
+    three_fields rest >>= λ f.
+    path_of f.0 >>= λ path.
+    inode_of f.1 >>= λ inode.
+    size_of f.2 >>= λ size.
     Some (File path inode size)
 
 -- a path, an offset and bytes
 unfoldable pub bytes_line : List ℕ → Option Line
 bytes_line rest =
-    after_field rest >>= λ second.
-    after_field second >>= λ third.
-    number (first_field second) >>= λ offset.
-    path_of (first_field rest) >>= λ path.
-    data_of third >>= λ bytes.
+    three_fields rest >>= λ f.
+    path_of f.0 >>= λ path.
+    number f.1 >>= λ offset.
+    data_of f.2 >>= λ bytes.
     Some (Bytes path offset bytes)
 
 -- whether a lock is one of writers
@@ -145,23 +142,20 @@ lock_of path write start count pid = if nat_le (start + count) (2 ^ 63) then Som
 -- a path, a kind, a first byte, a length and a process
 unfoldable pub lock_line : List ℕ → Option Line
 lock_line rest =
-    after_field rest >>= λ second.
-    after_field second >>= λ third.
-    after_field third >>= λ fourth.
-    after_field fourth >>= λ fifth.
-    lock_kind_of (first_field second) >>= λ write.
-    number (first_field third) >>= λ start.
-    number (first_field fourth) >>= λ count.
-    holder_of fifth >>= λ pid.
-    path_of (first_field rest) >>= λ path.
+    five_fields rest >>= λ f.
+    path_of f.0 >>= λ path.
+    lock_kind_of f.1 >>= λ write.
+    number f.2 >>= λ start.
+    number f.3 >>= λ count.
+    holder_of f.4 >>= λ pid.
     lock_of path write start count pid
 
 -- an address and bytes
 unfoldable pub poke_line : List ℕ → Option Line
 poke_line rest =
-    after_field rest >>= λ second.
-    word (first_field rest) >>= λ at.
-    data_of second >>= λ bytes.
+    two_fields rest >>= λ f.
+    word f.0 >>= λ at.
+    data_of f.1 >>= λ bytes.
     Some (Poke at bytes)
 
 -- all registers
@@ -248,9 +242,9 @@ unfoldable pub read_line : AbiKind → List ℕ → Result Line LineCause
 read_line kind line = read_about kind (keyword_of (first_field line)) line
 
 -- what was read, without where its bytes lie in memory
-abbrev pub said_by : Result Record LineCause → Result Line LineCause
-said_by (Ok r) = Ok (line_of r)
-said_by (Err cause) = Err cause
+abbrev pub said_by : Said → Result Line LineCause
+said_by (answers.Record r) = Ok (line_of r)
+said_by (answers.Bad cause) = Err cause
 
 -- clocks are below their end; a page stands at a multiple of its size, and has no more bytes; a file has at most 2^40
 abbrev pub IsInRange : Line → Type 0

@@ -1,14 +1,15 @@
 -- What has been seen of a script, and whether a line may stand at its place.
-use Rattle.std.specs.Prelude.{ℕ, zero, suc, ◌+◌, ◌/◌, ◌^◌, ◌==◌, ◌&&◌, ◌||◌, not, nat_le, if◌then◌else◌, Bool, true, false, List, [], ◌∷◌, length, Option, Some, None, Result, Ok, Err}
+use Rattle.std.specs.Prelude.{⊤, ℕ, zero, suc, ◌+◌, ◌/◌, ◌^◌, ◌==◌, ◌&&◌, ◌||◌, not, nat_le, if◌then◌else◌, Bool, true, false, List, [], ◌∷◌, length, Option, Some, None, Result, Ok, Err}
 use Rattle.std.specs.Ordering.{nat_cmp}
 use Rattle.std.specs.BTreeSet.{BTreeSet, contains, insert_key, btree_set_len}
 use Rattle.file_tree.specs.Image.{fresh_tree, is_free_name, has_bytes, image_directory, image_file}
 use Rattle.kernel_values.specs.declared.abi.AbiKind.{AbiKind}
 use Rattle.script_reader.specs.declared.fault.LineCause.{LineCause}
 use Rattle.script_reader.specs.declared.fault.LineCause.TheVariants as causes
-use Rattle.script_reader.specs.declared.record.Record.{Record}
 use Rattle.script_reader.specs.declared.seen.Seen.{Seen}
-use Rattle.script_reader.specs.Grammar.{Line, Header, Clock, Who, Usage, Restorer, Page, Dir, File, Bytes, Lock, Poke, Call, Advance, Show, abi_of, read_line, line_of}
+use Rattle.script_reader.specs.declared.seen.Told as answer
+use Rattle.script_reader.specs.declared.seen.Told.TheVariants as answers
+use Rattle.script_reader.specs.Grammar.{Line, Header, Clock, Who, Usage, Restorer, Page, Dir, File, Bytes, Lock, Poke, Call, Advance, Show, IsInRange, abi_of, read_line, line_of}
 
 abbrev pub new_seen : Seen
 new_seen = record { lines = 0; abi = None; clock = false; who = false; usage = false; restorer = false; begun = false; pages = record { keys = [] }; files = fresh_tree }
@@ -102,7 +103,13 @@ unfoldable pub line_told : Seen → List ℕ → Told
 line_told s line = if is_passed line then Passed (counted s) else told s (said s.abi line)
 
 -- what a line came to, from what was answered and what has been seen then
-abbrev pub told_by : Result (Option Record) LineCause → Seen → Told
-told_by (Ok None) after = Passed after
-told_by (Ok (Some r)) after = Says (line_of r) after
-told_by (Err cause) after = Bad cause
+abbrev pub told_by : answer.Told → Seen → Told
+told_by answers.Passed after = Passed after
+told_by (answers.Record r) after = Says (line_of r) after
+told_by (answers.Bad cause) after = Bad cause
+
+-- where a line says something, it is in its range
+abbrev pub IsToldInRange : Told → Type 0
+IsToldInRange (Passed after) = ⊤
+IsToldInRange (Says line after) = IsInRange line
+IsToldInRange (Bad cause) = ⊤

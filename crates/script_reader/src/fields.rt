@@ -2,7 +2,7 @@
 
 ghost use Rattle.std.specs.Prelude.{◌≡◌, ◌+◌, ◌*◌, ◌^◌, ◌<◌, ◌≤◌, ◌&&◌, ◌==◌, [], length, IfOk, IfSome, Some};
 ghost use Rattle.std.specs.Option.{option_map};
-ghost use Rattle.script_reader.specs.Fields.{same, first_field, after_field, digit, digits_from, number, number_below, word, clock, count, fields_in, data_of, is_name, is_graphic, are_names, is_path, path_of, inode_of, size_of};
+ghost use Rattle.script_reader.specs.Fields.{same, first_field, after_field, two_fields, three_fields, four_fields, five_fields, digit, digits_from, number, number_below, word, clock, count, fields_in, data_of, is_name, is_graphic, are_names, is_path, path_of, inode_of, size_of};
 
 use hex::FromHexError;
 use kernel_values::{OutOfMemory, PathText};
@@ -35,6 +35,45 @@ pub fn cut_field(line: &[u8]) -> (&[u8], Option<&[u8]>)
         }
     }
     (line, None)
+}
+
+/// The field in front, and all behind its space.
+#[tactic(auto, unfolding(crate::specs::Fields::two_fields))]
+pub fn two_fields(line: &[u8]) -> Option<(&[u8], &[u8])>
+    ensures { option_map (λ f. (f.0.now, f.1.now)) result ≡ two_fields line.now }
+{
+    let (first, after) = cut_field(line);
+    Some((first, after?))
+}
+
+/// The two fields in front, and all behind their spaces.
+#[tactic(auto, unfolding(crate::specs::Fields::three_fields))]
+pub fn three_fields(line: &[u8]) -> Option<(&[u8], &[u8], &[u8])>
+    ensures { option_map (λ f. (f.0.now, f.1.now, f.2.now)) result ≡ three_fields line.now }
+{
+    let (first, after) = cut_field(line);
+    let (second, third) = two_fields(after?)?;
+    Some((first, second, third))
+}
+
+/// The three fields in front, and all behind their spaces.
+#[tactic(auto, unfolding(crate::specs::Fields::four_fields))]
+pub fn four_fields(line: &[u8]) -> Option<(&[u8], &[u8], &[u8], &[u8])>
+    ensures { option_map (λ f. (f.0.now, f.1.now, f.2.now, f.3.now)) result ≡ four_fields line.now }
+{
+    let (first, after) = cut_field(line);
+    let (second, third, fourth) = three_fields(after?)?;
+    Some((first, second, third, fourth))
+}
+
+/// The four fields in front, and all behind their spaces.
+#[tactic(auto, unfolding(crate::specs::Fields::five_fields))]
+pub fn five_fields(line: &[u8]) -> Option<(&[u8], &[u8], &[u8], &[u8], &[u8])>
+    ensures { option_map (λ f. (f.0.now, f.1.now, f.2.now, f.3.now, f.4.now)) result ≡ five_fields line.now }
+{
+    let (first, after) = cut_field(line);
+    let (second, third, fourth, fifth) = four_fields(after?)?;
+    Some((first, second, third, fourth, fifth))
 }
 
 fn digit_value(c: u8) -> Option<u8>

@@ -7,13 +7,21 @@ ghost use Rattle.script_reader.specs.Grammar.{line_of, IsInRange, abi_of, pid_of
 
 use crate::fault::LineCause;
 use crate::fields::{
-    bytes_in, clock_in, counts_in, cut_field, inode_in, is_same, number_in, path_in, size_in,
-    word_in, words_in,
+    bytes_in, clock_in, counts_in, cut_field, five_fields, four_fields, inode_in, is_same,
+    number_in, path_in, size_in, three_fields, two_fields, word_in, words_in,
 };
 use crate::record::Record;
 use abi_registers::Registers;
 use kernel_values::{AbiKind, ByteList, Credentials, OutOfMemory, Usage};
 use std::alloc::Global;
+
+/// What a line says by itself.
+#[derive(Drop)]
+pub enum Said {
+    Record(Record),
+    /// It is bad, and this is the first cause that holds.
+    Bad(LineCause),
+}
 
 /// The first field of a line other than the header: what the line is about.
 #[derive(Clone, Copy, Debug, PartialEq, Eq)]
@@ -50,10 +58,9 @@ pub fn abi_in(line: &[u8]) -> Option<AbiKind>
 #[tactic(auto, unfolding(crate::specs::Grammar::clock_line))]
 fn clock_of(rest: &[u8]) -> Option<Record>
     ensures line { option_map line_of result ≡ clock_line rest.now }
-    ensures page { IfSome result (λ x. IsInRange (line_of x)) }
+    ensures range { IfSome result (λ x. IsInRange (line_of x)) }
 {
-    let (first, after) = cut_field(rest);
-    let second = after?;
+    let (first, second) = two_fields(rest)?;
     let real = clock_in(first)?;
     let monotonic = clock_in(second)?;
     Some(Record::Clock { real, monotonic })
@@ -86,14 +93,9 @@ fn privilege_in(field: &[u8]) -> Option<bool>
 #[tactic(auto, unfolding(crate::specs::Grammar::who_line))]
 fn who_of(rest: &[u8]) -> Option<Record>
     ensures line { option_map line_of result ≡ who_line rest.now }
-    ensures page { IfSome result (λ x. IsInRange (line_of x)) }
+    ensures range { IfSome result (λ x. IsInRange (line_of x)) }
 {
-    let (first, after) = cut_field(rest);
-    let second = after?;
-    let (second, after) = cut_field(second);
-    let third = after?;
-    let (third, after) = cut_field(third);
-    let fourth = after?;
+    let (first, second, third, fourth) = four_fields(rest)?;
     let pid = pid_in(first)?;
     let uid = word_in(second)?;
     let gid = word_in(third)?;
@@ -105,7 +107,7 @@ fn who_of(rest: &[u8]) -> Option<Record>
 #[tactic(auto, unfolding(crate::specs::Grammar::usage_line))]
 fn usage_of(rest: &[u8]) -> Option<Record>
     ensures line { option_map line_of result ≡ usage_line rest.now }
-    ensures page { IfSome result (λ x. IsInRange (line_of x)) }
+    ensures range { IfSome result (λ x. IsInRange (line_of x)) }
 {
     let words = counts_in::<18>(rest)?;
     let usage = Usage { words };
@@ -115,7 +117,7 @@ fn usage_of(rest: &[u8]) -> Option<Record>
 #[tactic(auto, unfolding(crate::specs::Grammar::restorer_line))]
 fn restorer_of(rest: &[u8]) -> Option<Record>
     ensures line { option_map line_of result ≡ restorer_line rest.now }
-    ensures page { IfSome result (λ x. IsInRange (line_of x)) }
+    ensures range { IfSome result (λ x. IsInRange (line_of x)) }
 {
     let address = word_in(rest)?;
     Some(Record::Restorer { address })
@@ -136,14 +138,9 @@ fn rights_in(field: &[u8]) -> Option<bool>
 #[tactic(auto, unfolding(crate::specs::Grammar::page_line))]
 fn page_of(alloc: Global, rest: &[u8]) -> Result<Option<Record>, OutOfMemory>
     ensures line { IfOk result (λ r. option_map line_of r ≡ page_line rest.now) }
-    ensures page { IfOk result (λ r. IfSome r (λ x. IsInRange (line_of x))) }
+    ensures range { IfOk result (λ r. IfSome r (λ x. IsInRange (line_of x))) }
 {
-    let (first, after) = cut_field(rest);
-    let Some(second) = after else {
-        return Ok(None);
-    };
-    let (second, after) = cut_field(second);
-    let Some(third) = after else {
+    let Some((first, second, third)) = three_fields(rest) else {
         return Ok(None);
     };
     let Some(at) = word_in(first) else {
@@ -168,10 +165,9 @@ fn page_of(alloc: Global, rest: &[u8]) -> Result<Option<Record>, OutOfMemory>
 #[tactic(auto, unfolding(crate::specs::Grammar::dir_line))]
 fn dir_of(alloc: Global, rest: &[u8]) -> Result<Option<Record>, OutOfMemory>
     ensures line { IfOk result (λ r. option_map line_of r ≡ dir_line rest.now) }
-    ensures page { IfOk result (λ r. IfSome r (λ x. IsInRange (line_of x))) }
+    ensures range { IfOk result (λ r. IfSome r (λ x. IsInRange (line_of x))) }
 {
-    let (first, after) = cut_field(rest);
-    let Some(second) = after else {
+    let Some((first, second)) = two_fields(rest) else {
         return Ok(None);
     };
     let Some(inode) = inode_in(second) else {
@@ -186,14 +182,9 @@ fn dir_of(alloc: Global, rest: &[u8]) -> Result<Option<Record>, OutOfMemory>
 #[tactic(auto, unfolding(crate::specs::Grammar::file_line))]
 fn file_of(alloc: Global, rest: &[u8]) -> Result<Option<Record>, OutOfMemory>
     ensures line { IfOk result (λ r. option_map line_of r ≡ file_line rest.now) }
-    ensures page { IfOk result (λ r. IfSome r (λ x. IsInRange (line_of x))) }
+    ensures range { IfOk result (λ r. IfSome r (λ x. IsInRange (line_of x))) }
 {
-    let (first, after) = cut_field(rest);
-    let Some(second) = after else {
-        return Ok(None);
-    };
-    let (second, after) = cut_field(second);
-    let Some(third) = after else {
+    let Some((first, second, third)) = three_fields(rest) else {
         return Ok(None);
     };
     let Some(inode) = inode_in(second) else {
@@ -211,14 +202,9 @@ fn file_of(alloc: Global, rest: &[u8]) -> Result<Option<Record>, OutOfMemory>
 #[tactic(auto, unfolding(crate::specs::Grammar::bytes_line))]
 fn bytes_of(alloc: Global, rest: &[u8]) -> Result<Option<Record>, OutOfMemory>
     ensures line { IfOk result (λ r. option_map line_of r ≡ bytes_line rest.now) }
-    ensures page { IfOk result (λ r. IfSome r (λ x. IsInRange (line_of x))) }
+    ensures range { IfOk result (λ r. IfSome r (λ x. IsInRange (line_of x))) }
 {
-    let (first, after) = cut_field(rest);
-    let Some(second) = after else {
-        return Ok(None);
-    };
-    let (second, after) = cut_field(second);
-    let Some(third) = after else {
+    let Some((first, second, third)) = three_fields(rest) else {
         return Ok(None);
     };
     let Some(offset) = number_in(second) else {
@@ -262,22 +248,9 @@ fn holder_in(field: &[u8]) -> Option<u32>
 #[tactic(auto, unfolding(crate::specs::Grammar::lock_line))]
 fn lock_of(alloc: Global, rest: &[u8]) -> Result<Option<Record>, OutOfMemory>
     ensures line { IfOk result (λ r. option_map line_of r ≡ lock_line rest.now) }
-    ensures page { IfOk result (λ r. IfSome r (λ x. IsInRange (line_of x))) }
+    ensures range { IfOk result (λ r. IfSome r (λ x. IsInRange (line_of x))) }
 {
-    let (first, after) = cut_field(rest);
-    let Some(second) = after else {
-        return Ok(None);
-    };
-    let (second, after) = cut_field(second);
-    let Some(third) = after else {
-        return Ok(None);
-    };
-    let (third, after) = cut_field(third);
-    let Some(fourth) = after else {
-        return Ok(None);
-    };
-    let (fourth, after) = cut_field(fourth);
-    let Some(fifth) = after else {
+    let Some((first, second, third, fourth, fifth)) = five_fields(rest) else {
         return Ok(None);
     };
     let Some(write) = lock_kind_in(second) else {
@@ -310,10 +283,9 @@ fn lock_of(alloc: Global, rest: &[u8]) -> Result<Option<Record>, OutOfMemory>
 #[tactic(auto, unfolding(crate::specs::Grammar::poke_line))]
 fn poke_of(alloc: Global, rest: &[u8]) -> Result<Option<Record>, OutOfMemory>
     ensures line { IfOk result (λ r. option_map line_of r ≡ poke_line rest.now) }
-    ensures page { IfOk result (λ r. IfSome r (λ x. IsInRange (line_of x))) }
+    ensures range { IfOk result (λ r. IfSome r (λ x. IsInRange (line_of x))) }
 {
-    let (first, after) = cut_field(rest);
-    let Some(second) = after else {
+    let Some((first, second)) = two_fields(rest) else {
         return Ok(None);
     };
     let Some(at) = word_in(first) else {
@@ -338,7 +310,7 @@ fn registers_of(abi: AbiKind, rest: &[u8]) -> Option<Registers>
 #[tactic(auto, unfolding(crate::specs::Grammar::call_line))]
 fn call_of(abi: AbiKind, rest: &[u8]) -> Option<Record>
     ensures line { option_map line_of result ≡ call_line abi rest.now }
-    ensures page { IfSome result (λ x. IsInRange (line_of x)) }
+    ensures range { IfSome result (λ x. IsInRange (line_of x)) }
 {
     let registers = registers_of(abi, rest)?;
     Some(Record::Call { registers })
@@ -347,7 +319,7 @@ fn call_of(abi: AbiKind, rest: &[u8]) -> Option<Record>
 #[tactic(auto, unfolding(crate::specs::Grammar::advance_line))]
 fn advance_of(rest: &[u8]) -> Option<Record>
     ensures line { option_map line_of result ≡ advance_line rest.now }
-    ensures page { IfSome result (λ x. IsInRange (line_of x)) }
+    ensures range { IfSome result (λ x. IsInRange (line_of x)) }
 {
     let nanos = clock_in(rest)?;
     Some(Record::Advance { nanos })
@@ -433,7 +405,7 @@ fn record_about(
     rest: &[u8],
 ) -> Result<Option<Record>, OutOfMemory>
     ensures line { IfOk result (λ r. option_map line_of r ≡ line_about abi keyword rest.now) }
-    ensures page { IfOk result (λ r. IfSome r (λ x. IsInRange (line_of x))) }
+    ensures range { IfOk result (λ r. IfSome r (λ x. IsInRange (line_of x))) }
 {
     match keyword {
         Keyword::Clock => Ok(clock_of(rest)),
@@ -472,24 +444,20 @@ fn rest_in(after: Option<&[u8]>) -> &[u8]
 
 /// What a line other than the header says, or its first cause by itself.
 #[tactic(auto, unfolding(crate::specs::Grammar::read_line))]
-pub fn read_line(
-    alloc: Global,
-    abi: AbiKind,
-    line: &[u8],
-) -> Result<Result<Record, LineCause>, OutOfMemory>
+pub fn read_line(alloc: Global, abi: AbiKind, line: &[u8]) -> Result<Said, OutOfMemory>
     requires { length line.now < 2 ^ 63 }
     ensures line { IfOk result (λ r. said_by r ≡ read_line abi line.now) }
-    ensures page { IfOk result (λ r. IfOk r (λ x. IsInRange (line_of x))) }
+    ensures range { IfOk result (λ r. IfOk (said_by r) (λ x. IsInRange x)) }
 {
     let (name, after) = cut_field(line);
     let Some(keyword) = keyword_in(name) else {
-        return Ok(Err(LineCause::Word));
+        return Ok(Said::Bad(LineCause::Word));
     };
     if field_count(line) != fields_of(abi, keyword) {
-        return Ok(Err(LineCause::Count));
+        return Ok(Said::Bad(LineCause::Count));
     }
     match record_about(alloc, abi, keyword, rest_in(after))? {
-        Some(record) => Ok(Ok(record)),
-        None => Ok(Err(LineCause::Field)),
+        Some(record) => Ok(Said::Record(record)),
+        None => Ok(Said::Bad(LineCause::Field)),
     }
 }

@@ -10,7 +10,7 @@ ghost use Rattle.script_reader.specs.Reads.{HasGiven, GivesBehind, new_script, n
 use crate::ahead::{Ahead, Stop, line_end};
 use crate::fault::{LineCause, ScriptFault};
 use crate::record::Record;
-use crate::seen::Seen;
+use crate::seen::{Seen, Told};
 use io_edge::Source;
 use kernel_values::OutOfMemory;
 use std::alloc::Global;
@@ -86,9 +86,9 @@ fn read_record<S: Source>(
                 ahead.pass(i + 1);
                 from = 0;
                 match told {
-                    Ok(Ok(None)) => {}
-                    Ok(Ok(Some(record))) => return Ok(Some(record)),
-                    Ok(Err(cause)) => return Err(ScriptFault::BadLine { line, cause }),
+                    Ok(Told::Passed) => {}
+                    Ok(Told::Record(record)) => return Ok(Some(record)),
+                    Ok(Told::Bad(cause)) => return Err(ScriptFault::BadLine { line, cause }),
                     Err(_) => return Err(ScriptFault::OutOfMemory),
                 }
             }

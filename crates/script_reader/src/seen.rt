@@ -4,10 +4,10 @@ ghost use Rattle.std.specs.Prelude.{◌≡◌, ◌+◌, ◌/◌, ◌^◌, ◌<�
 ghost use Rattle.std.specs.BTreeSet.{btree_set_len};
 ghost use Rattle.file_tree.specs.Image.{is_free_name, has_bytes, image_directory, image_file};
 ghost use Rattle.script_reader.specs.Grammar.{line_of, said_by, IsInRange};
-ghost use Rattle.script_reader.specs.Seen.{new_seen, has_page, is_covered, image_fault, misplaced, seen_with, is_passed, said, line_told, told_by};
+ghost use Rattle.script_reader.specs.Seen.{new_seen, has_page, is_covered, image_fault, misplaced, seen_with, is_passed, said, line_told, told_by, IsToldInRange};
 
 use crate::fault::LineCause;
-use crate::grammar::{abi_in, read_line};
+use crate::grammar::{Said, abi_in, read_line};
 use crate::record::Record;
 use file_tree::FileTree;
 use kernel_values::{AbiKind, KernelFault, OutOfMemory};
@@ -41,22 +41,28 @@ fn is_passed(line: &[u8]) -> bool
 }
 
 /// What a line says, or its first cause by itself: the header as long as there was none.
-fn said(
-    alloc: Global,
-    abi: Option<AbiKind>,
-    line: &[u8],
-) -> Result<Result<Record, LineCause>, OutOfMemory>
+fn said(alloc: Global, abi: Option<AbiKind>, line: &[u8]) -> Result<Said, OutOfMemory>
     requires { length line.now < 2 ^ 63 }
     ensures line { IfOk result (λ r. said_by r ≡ said abi line.now) }
-    ensures range { IfOk result (λ r. IfOk r (λ x. IsInRange (line_of x))) }
+    ensures range { IfOk result (λ r. IfOk (said_by r) (λ x. IsInRange x)) }
 {
     if let Some(kind) = abi {
         return read_line(alloc, kind, line);
     }
     match abi_in(line) {
-        Some(abi) => Ok(Ok(Record::Header { abi })),
-        None => Ok(Err(LineCause::Header)),
+        Some(abi) => Ok(Said::Record(Record::Header { abi })),
+        None => Ok(Said::Bad(LineCause::Header)),
     }
+}
+
+/// What a whole line comes to at its place.
+#[derive(Drop)]
+pub enum Told {
+    Record(Record),
+    /// It is empty or a comment.
+    Passed,
+    /// It is bad, and this is the first cause that holds.
+    Bad(LineCause),
 }
 
 /// What has been seen of a script so far.
@@ -233,33 +239,28 @@ impl Seen {
         Ok(())
     }
 
-    /// What a whole line comes to, without its line feed: a record, the cause for which it is bad, or `None` where it
-    /// is passed over.
+    /// What a whole line comes to, without its line feed.
     #[tactic(auto, unfolding(crate::specs::Seen::line_told))]
-    pub fn tell(
-        &mut self,
-        alloc: Global,
-        line: &[u8],
-    ) -> Result<Result<Option<Record>, LineCause>, OutOfMemory>
+    pub fn tell(&mut self, alloc: Global, line: &[u8]) -> Result<Told, OutOfMemory>
         requires few { self.old.lines < 2 ^ 63 }
         requires short { length line.now < 2 ^ 63 }
         ensures told { IfOk result (λ r. told_by r self.new ≡ line_told self.old line.now) }
-        ensures range { IfOk result (λ r. IfOk r (λ o. IfSome o (λ x. IsInRange (line_of x)))) }
+        ensures range { IfOk result (λ r. IsToldInRange (told_by r self.new)) }
         ensures lines { self.new.lines ≤ self.old.lines + 1 }
     {
         if is_passed(line) {
             self.lines += 1;
-            return Ok(Ok(None));
+            return Ok(Told::Passed);
         }
         let record = match said(alloc, self.abi, line)? {
-            Ok(record) => record,
-            Err(cause) => return Ok(Err(cause)),
+            Said::Record(record) => record,
+            Said::Bad(cause) => return Ok(Told::Bad(cause)),
         };
         if let Some(cause) = self.misplaced(&record) {
-            return Ok(Err(cause));
+            return Ok(Told::Bad(cause));
         }
         self.lines += 1;
         self.see(alloc, &record)?;
-        Ok(Ok(Some(record)))
+        Ok(Told::Record(record))
     }
 }
