@@ -1,6 +1,6 @@
 //! The parts of a report that are told of registers, of memory and of the kernel.
 
-ghost use Rattle.std.specs.Prelude.{◌≡◌, ◌++◌, ◌+◌, ◌^◌, ◌≤◌, true, OnOk};
+ghost use Rattle.std.specs.Prelude.{◌≡◌, ◌++◌, true, OnOk};
 ghost use Rattle.user_memory.specs.Memory.{is_readable, bytes_at};
 ghost use Rattle.user_memory.specs.Changes.{changes};
 ghost use Rattle.abi_registers.specs.Places.{all_in, kind_in, number_in};
