@@ -17,12 +17,12 @@ unfolding changes_text
 changes_end out all runs e so_far = sym (append-nil out) ∙ (rw e at so_far)
 
 -- the line of one item, with the peak's line before it where that belongs there
-pub items_go : (abi : AbiKind) (b c : Bool) (x : StateItem) (left rest : List StateItem) (out peaked after all : List ℕ) → left ≡ x ∷ rest → c ≡ (b || not (is_front x))
-    → peaked ≡ out ++ peak_before b x → after ≡ peaked ++ item_text abi x → out ++ items_text abi b left ≡ all → after ++ items_text abi c rest ≡ all
+pub items_go : (abi : AbiKind) (peak : ℕ) (b c : Bool) (x : StateItem) (left rest : List StateItem) (out peaked after all : List ℕ) → left ≡ x ∷ rest → c ≡ (b || not (is_front x))
+    → peaked ≡ out ++ peak_before peak b x → after ≡ peaked ++ item_text abi x → out ++ items_text abi peak b left ≡ all → after ++ items_text abi peak c rest ≡ all
 unfolding items_text
-items_go abi b c x left rest out peaked after all e t p a so_far =
-    rw (a, p, t) (append_assoc (out ++ peak_before b x) (item_text abi x) (items_text abi (b || not (is_front x)) rest)
-    ∙ append_assoc out (peak_before b x) (item_text abi x ++ items_text abi (b || not (is_front x)) rest) ∙ (rw e at so_far))
+items_go abi peak b c x left rest out peaked after all e t p a so_far =
+    rw (a, p, t) (append_assoc (out ++ peak_before peak b x) (item_text abi x) (items_text abi peak (b || not (is_front x)) rest)
+    ∙ append_assoc out (peak_before peak b x) (item_text abi x ++ items_text abi peak (b || not (is_front x)) rest) ∙ (rw e at so_far))
 
-pub items_end : (abi : AbiKind) (b : Bool) (left : List StateItem) (out after all : List ℕ) → left ≡ [] → after ≡ out ++ items_text abi b [] → out ++ items_text abi b left ≡ all → after ≡ all
-items_end abi b left out after all e a so_far = a ∙ (rw e at so_far)
+pub items_end : (abi : AbiKind) (peak : ℕ) (b : Bool) (left : List StateItem) (out after all : List ℕ) → left ≡ [] → after ≡ out ++ items_text abi peak b [] → out ++ items_text abi peak b left ≡ all → after ≡ all
+items_end abi peak b left out after all e a so_far = a ∙ (rw e at so_far)

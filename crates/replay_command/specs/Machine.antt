@@ -128,7 +128,7 @@ applied m (lines.Lock path write start count pid) = silent (set_lock m path writ
 applied m (lines.Poke at bytes) = silent (poke m at bytes)
 applied m (lines.Call registers) = call m registers
 applied m (lines.Advance nanos) = silent (advance m nanos)
-applied m lines.Show = record { machine = m; text = state_text m.kind m.world.kernel }
+applied m lines.Show = record { machine = m; text = state_text m.kind m.world }
 
 -- whose process it is where a script doesn't say
 abbrev pub owner : Identity

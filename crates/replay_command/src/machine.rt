@@ -277,7 +277,7 @@ impl Machine {
             Record::Poke { at, bytes } => self.poke(at, &bytes),
             Record::Call { registers } => self.call(alloc, out, &registers)?,
             Record::Advance { nanos } => self.advance(nanos),
-            Record::Show => put_state(alloc, out, self.kind, &self.world.kernel)?,
+            Record::Show => put_state(alloc, out, self.kind, &self.world)?,
         }
         Ok(())
     }

@@ -1,4 +1,4 @@
-//! The parts of a report that are told of registers, of memory and of the kernel.
+//! The parts of a report that are told of registers, of memory and of the world.
 
 ghost use Rattle.std.specs.Prelude.{◌≡◌, ◌++◌, true, OnOk};
 ghost use Rattle.user_memory.specs.Memory.{is_readable, bytes_at};
@@ -12,8 +12,8 @@ ghost use Rattle.replay_command.specs.StateText.{state_text};
 use crate::state::put_state;
 use abi_registers::Registers;
 use call_tables::find_row;
+use compat_calls::World;
 use kernel_values::{AbiKind, OutOfMemory};
-use native_kernel::Kernel;
 use report_text::{put_call, put_change, put_last};
 use std::alloc::Global;
 use user_memory::{Change, UserMemory};
@@ -75,10 +75,10 @@ pub fn put_whole(
     alloc: Global,
     out: &mut Vec<u8>,
     abi: AbiKind,
-    kernel: &Kernel,
+    world: &World,
 ) -> Result<(), OutOfMemory>
-    ensures { OnOk result (out.new.items ≡ out.old.items ++ (state_text abi kernel.now ++ end_line)) }
+    ensures { OnOk result (out.new.items ≡ out.old.items ++ (state_text abi world.now ++ end_line)) }
 {
-    put_state(alloc, out, abi, kernel)?;
+    put_state(alloc, out, abi, world)?;
     put_last(out)
 }
