@@ -8,7 +8,10 @@ ghost use Rattle.file_calls.specs.Choice.{descriptor_service, file_need, file_se
 
 use crate::{descriptors, lengths, listings, names, paths, pipes, retiming, status, transfers};
 use abi_registers::Args;
-use call_tables::{DescriptorOperation, FileOperation, LengthOperation, ListingOperation, NameOperation, PathOperation, PipeOperation, RetimingOperation, StatusOperation, TransferOperation};
+use call_tables::{
+    DescriptorOperation, FileOperation, LengthOperation, ListingOperation, NameOperation,
+    PathOperation, PipeOperation, RetimingOperation, StatusOperation, TransferOperation,
+};
 use kernel_values::Answer;
 use layout_laws::Compat;
 use native_kernel::Kernel;
@@ -195,7 +198,9 @@ pub fn serve_file<A: Compat>(
     match operation {
         FileOperation::Paths(call) => serve_path::<A>(alloc, memory, kernel, call, args),
         FileOperation::Names(call) => serve_name::<A>(alloc, memory, kernel, call, args),
-        FileOperation::Descriptors(call) => serve_descriptor::<A>(alloc, memory, kernel, call, args),
+        FileOperation::Descriptors(call) => serve_descriptor::<A>(
+            alloc, memory, kernel, call, args,
+        ),
         FileOperation::Pipes(call) => serve_pipe::<A>(alloc, memory, kernel, call, args),
         FileOperation::Transfers(call) => serve_transfer::<A>(alloc, memory, kernel, call, args),
         FileOperation::Listings(call) => serve_listing::<A>(alloc, memory, kernel, call, args),

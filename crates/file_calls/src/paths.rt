@@ -13,7 +13,6 @@ use served_calls::{PATH_MAX, fetch_path, store_bytes};
 use std::alloc::Global;
 use user_memory::UserMemory;
 
-
 /// open(path, flags, mode)
 ///
 /// EFAULT and ENAMETOOLONG of the path; then the refusals of `Kernel::open_path`. Answers the descriptor.

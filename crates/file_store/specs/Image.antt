@@ -1,5 +1,5 @@
 -- The state at first, and what the image puts into it.
-use Rattle.std.specs.Prelude.{ℕ, Bool, List, [], Result, Ok, Err, ⊤}
+use Rattle.std.specs.Prelude.{ℕ, Bool, List, Result, Ok, Err, ⊤}
 use Rattle.kernel_values.specs.declared.errno.Errno.{Errno}
 use Rattle.file_tree.specs.Image as tree
 use Rattle.file_tree.specs.declared.state.FileTree.{FileTree}

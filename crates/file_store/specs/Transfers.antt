@@ -1,5 +1,5 @@
 -- Reads and writes of files and pipes.
-use Rattle.std.specs.Prelude.{ℕ, ℤ, ◌+◌, ◌-◌, ◌==◌, ◌&&◌, min, not, nat_le, length, take, drop, List, Result, Ok, Err, if◌then◌else◌}
+use Rattle.std.specs.Prelude.{ℕ, ℤ, ◌+◌, ◌-◌, ◌==◌, ◌&&◌, min, not, nat_le, length, take, drop, List, Result, Ok, if◌then◌else◌}
 use Rattle.kernel_values.specs.Bounds.{most_file_bytes, most_narrow}
 use Rattle.kernel_values.specs.Outcome.{◌>>=◌, ◌>>◌, refused_if, settled}
 use Rattle.kernel_values.specs.OpenFlags.{appends, can_read, can_write, is_large}

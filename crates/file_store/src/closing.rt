@@ -1,6 +1,6 @@
 //! The closing of all descriptors, when a process ends.
 
-ghost use Rattle.std.specs.Prelude.{◌≡◌, ◌<◌, ◌≤◌, ◌-◌, ◌+◌, length};
+ghost use Rattle.std.specs.Prelude.{◌≡◌};
 ghost use Rattle.file_store.specs.Closing.{close_all, lowest_closed};
 
 use crate::state::Files;

@@ -1,6 +1,6 @@
 //! Descriptors that are closed, and put in the place of others.
 
-ghost use Rattle.std.specs.Prelude.{◌≡◌, ◌≤◌, Some};
+ghost use Rattle.std.specs.Prelude.{◌≡◌, Some};
 ghost use Rattle.kernel_values.specs.Outcome.{Gives, GivesAlways};
 ghost use Rattle.number_maps.specs.NumberMap.{at};
 ghost use Rattle.file_store.specs.Descriptors.{close, closed, duplicate_to, is_dup_flags, is_number, vacated};

@@ -1,6 +1,6 @@
 //! The tree and what is open told item by item, in the order of a report.
 
-ghost use Rattle.std.specs.Prelude.{◌≡◌, [], ◌∷◌, IfOk};
+ghost use Rattle.std.specs.Prelude.{◌≡◌, IfOk};
 ghost use Rattle.kernel_values.specs.Items.{TellsFirst};
 ghost use Rattle.file_store.specs.Items.{file_items, files_left};
 

@@ -1,6 +1,6 @@
 //! Other lengths of files.
 
-ghost use Rattle.std.specs.Prelude.{◌≡◌, ◌+◌, ◌≤◌, IfOk};
+ghost use Rattle.std.specs.Prelude.{◌+◌, ◌≤◌, IfOk};
 ghost use Rattle.kernel_values.specs.Bounds.{most_file_bytes};
 ghost use Rattle.kernel_values.specs.Outcome.{GivesAlways, Tells};
 ghost use Rattle.file_store.specs.Lengths.{allocate, length_of, raises_length, truncate, truncate_open};

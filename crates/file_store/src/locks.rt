@@ -1,6 +1,5 @@
 //! Locks of files that are open.
 
-ghost use Rattle.std.specs.Prelude.{◌≡◌};
 ghost use Rattle.kernel_values.specs.Outcome.{Gives, Tells, settled};
 ghost use Rattle.file_tree.specs.Locks as tree;
 ghost use Rattle.file_store.specs.Locks.{find_lock, set_lock};

@@ -1,6 +1,6 @@
 //! The making of directories.
 
-ghost use Rattle.std.specs.Prelude.{◌≡◌, ℕ, false, OnOk};
+ghost use Rattle.std.specs.Prelude.{◌≡◌, false, OnOk};
 ghost use Rattle.kernel_values.specs.Outcome.{Gives};
 ghost use Rattle.open_files.specs.Made.{is_full};
 ghost use Rattle.file_store.specs.NewDirectory.{make_directory, with_directory};

@@ -1,6 +1,6 @@
 //! Opening by a path.
 
-ghost use Rattle.std.specs.Prelude.{◌≡◌, ℕ, ◌+◌, false, IfOk, OnOk, List, Option, None, Some};
+ghost use Rattle.std.specs.Prelude.{◌≡◌, false, IfOk, OnOk, None, Some};
 ghost use Rattle.kernel_values.specs.Outcome.{Gives, Tells, settled};
 ghost use Rattle.file_tree.specs.Making.{next_inode};
 ghost use Rattle.open_files.specs.Made.{HasRoom, is_full};

@@ -1,6 +1,6 @@
 //! Where the steps of a path begin, and the inode that they lead to.
 
-ghost use Rattle.std.specs.Prelude.{◌≡◌, ℕ};
+ghost use Rattle.std.specs.Prelude.{◌≡◌};
 ghost use Rattle.kernel_values.specs.Outcome.{Tells, TellsAs};
 ghost use Rattle.file_store.specs.Paths.{is_working, place_of, resolve, resolve_parent, start_of};
 

@@ -1,7 +1,7 @@
 //! The removing of names, and of what they meant.
 
 ghost use Rattle.std.specs.Prelude.{◌≡◌};
-ghost use Rattle.kernel_values.specs.Outcome.{GivesAlways, Tells, TellsAs};
+ghost use Rattle.kernel_values.specs.Outcome.{GivesAlways, TellsAs};
 ghost use Rattle.file_store.specs.Removing.{has_open, parent_named, remove, remove_directory, unlink};
 
 use crate::state::Files;

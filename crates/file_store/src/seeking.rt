@@ -1,6 +1,6 @@
 //! Seeking.
 
-ghost use Rattle.std.specs.Prelude.{◌≡◌, ◌+◌, ◌+ℤ◌, ◌<◌, ◌≤◌, pos, IfOk};
+ghost use Rattle.std.specs.Prelude.{◌+◌, ◌+ℤ◌, ◌<◌, pos};
 ghost use Rattle.kernel_values.specs.Outcome.{GivesAlways, Tells};
 ghost use Rattle.file_store.specs.Seeking.{in_range, seek};
 

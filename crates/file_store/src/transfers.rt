@@ -1,6 +1,6 @@
 //! Reads and writes of files and pipes.
 
-ghost use Rattle.std.specs.Prelude.{◌≡◌, ℕ, ◌-◌, ◌+◌, ◌<◌, ◌≤◌, ◌^◌, true, Some, IsSome, IfOk, OnErr, length, take, drop, ◌⊎◌};
+ghost use Rattle.std.specs.Prelude.{◌≡◌, ◌-◌, ◌+◌, ◌<◌, ◌≤◌, ◌^◌, true, IsSome, IfOk, OnErr, length, take, drop, ◌⊎◌};
 ghost use Rattle.kernel_values.specs.Bounds.{most_file_bytes};
 ghost use Rattle.kernel_values.specs.Outcome.{Gives, GivesAlways, OnOutOfMemory, Tells, settled};
 ghost use Rattle.number_maps.specs.NumberMap.{at};

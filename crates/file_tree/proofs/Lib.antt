@@ -1,2 +1,2 @@
 pub mod FileItems
-pub mod WorkingTexts
+pub mod Workings

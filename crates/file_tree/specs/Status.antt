@@ -1,5 +1,5 @@
 -- What is told of a file or a directory, and of what has no name.
-use Rattle.std.specs.Prelude.{ℕ, pos, ◌*◌, List, ok_or, Result, Ok}
+use Rattle.std.specs.Prelude.{ℕ, pos, ◌*◌, ok_or, Result, Ok}
 use Rattle.kernel_values.specs.Outcome.{◌>>=◌}
 use Rattle.kernel_values.specs.declared.errno.Errno.{Errno}
 use Rattle.kernel_values.specs.declared.errno.Errno.TheVariants.{NoEntry}

@@ -1,6 +1,6 @@
 //! The bytes of files, by inode number.
 
-ghost use Rattle.std.specs.Prelude.{◌≡◌, ℕ, List, [], ◌+◌, ◌<◌, ◌≤◌, ◌^◌, ◌++◌, length, take, drop, replicate, OnOk, IfSome, MatchOption, ◌∷◌};
+ghost use Rattle.std.specs.Prelude.{◌≡◌, ℕ, List, [], ◌+◌, ◌≤◌, ◌^◌, ◌++◌, length, take, drop, replicate, OnOk, IfSome, MatchOption, ◌∷◌};
 ghost use Rattle.file_bytes.specs.Filled.{filled_pages};
 ghost use Rattle.file_bytes.specs.Runs.{runs_from};
 ghost use Rattle.number_maps.specs.NumberMap.{at, put, removed};

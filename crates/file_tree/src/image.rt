@@ -1,6 +1,6 @@
 //! The tree at first, and what the image puts into it. The image's paths begin at the root.
 
-ghost use Rattle.std.specs.Prelude.{◌≡◌, ◌≤◌, ◌+◌, ℕ, IfOk, OnOk, length};
+ghost use Rattle.std.specs.Prelude.{◌≡◌, ◌≤◌, IfOk, OnOk, length};
 ghost use Rattle.kernel_values.specs.Bounds.{most_file_bytes};
 ghost use Rattle.kernel_values.specs.Outcome.{Gives, Tells, TellsAs};
 ghost use Rattle.file_tree.specs.Image.{fresh_tree, has_bytes, image_bytes, image_directory, image_entry, image_file, image_inode, image_lock, image_node, image_parent, is_free_inode, is_free_name, with_image_directory, with_image_file, with_image_name};

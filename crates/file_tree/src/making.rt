@@ -1,7 +1,6 @@
 //! What calls make: files, directories and their names.
 
-ghost use Rattle.std.specs.Prelude.{◌≡◌, ℕ, ◌+◌, IfOk, OnOk};
-ghost use Rattle.file_tables.specs.Numbers.{new_number};
+ghost use Rattle.std.specs.Prelude.{◌≡◌, ◌+◌, IfOk, OnOk};
 ghost use Rattle.file_tree.specs.Making.{directory_mode, file_mode, made_node, next_inode, with_directory, with_file, with_inode_given, with_name};
 
 use crate::state::{FileTree, Maker};

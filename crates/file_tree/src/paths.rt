@@ -1,6 +1,6 @@
 //! From a path to an inode, by steps that begin at a directory.
 
-ghost use Rattle.std.specs.Prelude.{◌≡◌, ℕ, None, Some, IsSome, IfOk, IfNone};
+ghost use Rattle.std.specs.Prelude.{◌≡◌};
 ghost use Rattle.kernel_values.specs.Outcome.{Tells, TellsAs};
 ghost use Rattle.file_tree.specs.Paths.{entry_at, inode_from, is_directory, last_entry, parent_from};
 

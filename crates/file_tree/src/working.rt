@@ -2,7 +2,7 @@
 
 ghost use Rattle.std.specs.Prelude.{◌≡◌, ◌≤◌, length, IfOk, IfSome, option_map};
 ghost use Rattle.kernel_values.specs.Outcome.{GivesTold};
-ghost use Rattle.file_tables.specs.PathTexts.{path_text};
+ghost use Rattle.file_tables.specs.PathTexts.{path_text, short_text};
 ghost use Rattle.file_tree.specs.Working.{current_directory, with_working, working_text};
 
 use crate::state::FileTree;
@@ -26,16 +26,16 @@ impl FileTree {
         self.working = inode;
     }
 
-    /// The path of the working directory. None where its names have more than 4,095 bytes.
-    #[tactic(auto, unfolding(crate::specs::Working::working_text), using(crate::proofs::WorkingTexts::short_path))]
+    /// The path of the working directory. None where it has more than 4,095 bytes.
+    #[tactic(auto, unfolding(crate::specs::Working::working_text), using(crate::proofs::Workings::short_path, crate::proofs::Workings::short_length))]
     fn working_text(&self, alloc: Global) -> Result<Option<Vec<u8>>, OutOfMemory>
-        ensures text { IfOk result (λ v. option_map (λ t. t.items) v ≡ working_text self.now) }
+        ensures text { IfOk result (λ v. option_map (λ t. t.items) v ≡ short_text (working_text self.now)) }
         ensures short { IfOk result (λ v. IfSome v (λ t. length t.items ≤ 4095)) }
     {
-        let Some(text) = self.directories.text_up(alloc, self.working)? else {
-            return Ok(None);
-        };
-        Ok(Some(path_text(text)?))
+        match self.directories.text_up(alloc, self.working)? {
+            Some(text) => Ok(Some(path_text(text)?)),
+            None => Ok(None),
+        }
     }
 
     /// getcwd: the path of the working directory, with a zero at its end. ENAMETOOLONG where that is more than

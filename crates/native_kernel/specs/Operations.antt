@@ -206,12 +206,14 @@ with_clocks k real monotonic = record k { clocks = record { real = real; monoton
 
 -- the same for the process of another owner; what it has used stays
 unfoldable pub with_owner : Kernel → Credentials → Bool → Kernel
-with_owner k owner privileged = record k { process = record k.process {
-  pid = owner.pid;
-  uid = owner.uid;
-  gid = owner.gid;
-  privileged = privileged;
-} }
+with_owner k owner privileged = record k {
+  process = record k.process {
+    pid = owner.pid;
+    uid = owner.uid;
+    gid = owner.gid;
+    privileged = privileged;
+  };
+}
 
 -- the same for a process that has used something else
 unfoldable pub with_usage : Kernel → Usage → Kernel

@@ -174,7 +174,10 @@ impl Desk {
     }
 
     fn make(&mut self, path: &[u8]) -> i64 {
-        done(self.kernel.make_directory(self.alloc, AT_FDCWD, path, 0o755))
+        done(
+            self.kernel
+                .make_directory(self.alloc, AT_FDCWD, path, 0o755),
+        )
     }
 
     fn remove(&mut self, path: &[u8], flags: i64) -> i64 {

@@ -1,5 +1,5 @@
 -- The making of pipes, and their end.
-use Rattle.std.specs.Prelude.{ℕ, ◌==◌, Bool, not, List, [], Result, Ok, if◌then◌else◌}
+use Rattle.std.specs.Prelude.{ℕ, ◌==◌, Bool, not, [], Result, Ok, if◌then◌else◌}
 use Rattle.std.specs.Int.RustNames.{bit_and, bit_or}
 use Rattle.kernel_values.specs.Outcome.{◌>>=◌, ◌>>◌, refused_if}
 use Rattle.kernel_values.specs.declared.errno.Errno.{Errno}
@@ -7,7 +7,7 @@ use Rattle.kernel_values.specs.declared.errno.Errno.TheVariants.{InvalidArgument
 use Rattle.kernel_values.specs.declared.items.OpenKind.{OpenKind}
 use Rattle.kernel_values.specs.declared.items.OpenKind.TheVariants.{PipeRead, PipeWrite}
 use Rattle.number_maps.specs.NumberMap.{put, removed}
-use Rattle.open_files.specs.Descriptors.{counted, installed}
+use Rattle.open_files.specs.Descriptors.{installed}
 use Rattle.open_files.specs.Holding.{is_open}
 use Rattle.open_files.specs.Made.{is_full, more_made}
 use Rattle.open_files.specs.Numbers.{free_pair}

@@ -1,5 +1,5 @@
 -- Reads and writes of what is no file: pipes and sockets.
-use Rattle.std.specs.Prelude.{ℕ, ℤ, pos, negsuc, Bool, true, false, List, [], ◌∷◌, drop, Result, Ok, Err}
+use Rattle.std.specs.Prelude.{ℕ, pos, negsuc, Bool, true, false, List, [], ◌∷◌, drop, Result, Ok, Err}
 use Rattle.kernel_values.specs.declared.errno.Errno.{Errno}
 use Rattle.kernel_values.specs.declared.errno.Errno.TheVariants.{IllegalSeek, InvalidArgument, OperationNotSupported}
 use Rattle.pipe_sock.specs.Pipes as pipes

@@ -1,6 +1,6 @@
 //! Descriptors, and the open files that they name.
 
-ghost use Rattle.std.specs.Prelude.{◌≡◌, ◌∷◌, [], ◌+◌, ◌<◌, ◌^◌, Some, IsSome, IfOk, OnOk, MatchOption, length, option_copied};
+ghost use Rattle.std.specs.Prelude.{◌≡◌, ◌∷◌, [], ◌<◌, Some, IsSome, IfOk, OnOk, MatchOption, length};
 ghost use Rattle.kernel_values.specs.Outcome.{Tells};
 ghost use Rattle.number_maps.specs.NumberMap.{after_key, at};
 ghost use Rattle.open_files.specs.Descriptors.{counted, descriptor_of, installed, nothing_open, number_of, open_file, position, with_descriptor, with_open_file, with_position, without_descriptor, without_open_file};

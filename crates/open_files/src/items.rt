@@ -1,6 +1,6 @@
 //! Descriptors, open files and pipes told item by item, in the order of a report.
 
-ghost use Rattle.std.specs.Prelude.{◌≡◌, [], ◌∷◌, IfOk};
+ghost use Rattle.std.specs.Prelude.{◌≡◌, IfOk};
 ghost use Rattle.kernel_values.specs.Items.{TellsFirst};
 ghost use Rattle.open_files.specs.Items.{open_items, open_left};
 

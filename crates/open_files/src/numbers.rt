@@ -1,6 +1,6 @@
 //! The numbers of new descriptors.
 
-ghost use Rattle.std.specs.Prelude.{◌≡◌, ◌+◌, ◌-◌, IfOk};
+ghost use Rattle.std.specs.Prelude.{◌≡◌, ◌+◌};
 ghost use Rattle.kernel_values.specs.Outcome.{Gives, Tells};
 ghost use Rattle.open_files.specs.Numbers.{duplicate, free_number, free_pair, from_least};
 

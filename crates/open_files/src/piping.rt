@@ -1,6 +1,6 @@
 //! The making of pipes, and their end.
 
-ghost use Rattle.std.specs.Prelude.{◌≡◌, ◌+◌, ◌-◌, ◌<◌, ◌≤◌, false, IfOk, OnOk, Ok};
+ghost use Rattle.std.specs.Prelude.{◌≡◌, false, IfOk, OnOk, Ok};
 ghost use Rattle.kernel_values.specs.Outcome.{Tells};
 ghost use Rattle.open_files.specs.Made.{HasRoom, is_full};
 ghost use Rattle.open_files.specs.Piping.{drained, is_pipe_flags, marks_close, pipe_end, pipe_numbers, with_empty_pipe, with_pipe};

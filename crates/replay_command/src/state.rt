@@ -80,11 +80,5 @@ pub fn put_state(
     ensures { OnOk result (out.new.items ≡ out.old.items ++ state_text abi world.now) }
 {
     put_state_head(out)?;
-    put_items(
-        alloc,
-        out,
-        abi,
-        world.region.peak() as u64,
-        &world.kernel,
-    )
+    put_items(alloc, out, abi, world.region.peak() as u64, &world.kernel)
 }
