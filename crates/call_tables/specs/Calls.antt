@@ -14,7 +14,7 @@ use Rattle.call_tables.specs.declared.operation.TransferOperation.TheVariants as
 use Rattle.call_tables.specs.declared.operation.ListingOperation.TheVariants as listing
 use Rattle.call_tables.specs.declared.operation.StatusOperation.TheVariants as status
 use Rattle.call_tables.specs.declared.operation.RetimingOperation.TheVariants as retiming
-use Rattle.call_tables.specs.declared.operation.LengthOperation.TheVariants as length
+use Rattle.call_tables.specs.declared.operation.LengthOperation.TheVariants as lengths
 use Rattle.call_tables.specs.declared.operation.TimeOperation.TheVariants as time
 use Rattle.call_tables.specs.declared.operation.LimitOperation.TheVariants as limit
 use Rattle.call_tables.specs.declared.operation.IdentityOperation.TheVariants as identity
@@ -98,11 +98,11 @@ retiming_calls =
 
 abbrev pub length_calls : List Line
 length_calls =
-    line (Files (Lengths length.Fallocate)) (codes "fallocate") (By 324 352) (Signed ∷ Signed ∷ Pair ∷ Pair ∷ []) ∷  -- fallocate(fd, mode, offset, length)
-    line (Files (Lengths length.Ftruncate)) (codes "ftruncate") (Both 93) (Signed ∷ Signed ∷ []) ∷  -- ftruncate(fd, length)
-    line (Files (Lengths length.Ftruncate64)) (codes "ftruncate64") (Both 194) (Signed ∷ Pair ∷ []) ∷  -- ftruncate64(fd, length)
-    line (Files (Lengths length.Truncate)) (codes "truncate") (Both 92) (Word ∷ Signed ∷ []) ∷  -- truncate(path, length)
-    line (Files (Lengths length.Truncate64)) (codes "truncate64") (Both 193) (Word ∷ Pair ∷ []) ∷  -- truncate64(path, length)
+    line (Files (Lengths lengths.Fallocate)) (codes "fallocate") (By 324 352) (Signed ∷ Signed ∷ Pair ∷ Pair ∷ []) ∷  -- fallocate(fd, mode, offset, length)
+    line (Files (Lengths lengths.Ftruncate)) (codes "ftruncate") (Both 93) (Signed ∷ Signed ∷ []) ∷  -- ftruncate(fd, length)
+    line (Files (Lengths lengths.Ftruncate64)) (codes "ftruncate64") (Both 194) (Signed ∷ Pair ∷ []) ∷  -- ftruncate64(fd, length)
+    line (Files (Lengths lengths.Truncate)) (codes "truncate") (Both 92) (Word ∷ Signed ∷ []) ∷  -- truncate(path, length)
+    line (Files (Lengths lengths.Truncate64)) (codes "truncate64") (Both 193) (Word ∷ Pair ∷ []) ∷  -- truncate64(path, length)
     []
 
 abbrev pub time_calls : List Line

@@ -1,5 +1,5 @@
 -- What is told of the state: one list of items, and what of it is left at a cursor.
-use Rattle.std.specs.Prelude.{◌≡◌, ℕ, ◌+◌, ◌^◌, ◌-◌, ◌==◌, ◌&&◌, Bool, List, [], ◌∷◌, ◌++◌, drop, Option, Some, None, MatchOption, Result, Ok, Err, if◌then◌else◌}
+use Rattle.std.specs.Prelude.{◌≡◌, ℕ, ◌+◌, ◌==◌, ◌&&◌, Bool, List, [], ◌∷◌, ◌++◌, drop, Option, Some, None, MatchOption, Result, Ok, Err, if◌then◌else◌}
 use Rattle.kernel_values.specs.declared.errno.OutOfMemory.{OutOfMemory}
 use Rattle.kernel_values.specs.declared.process_end.End.{End}
 use Rattle.kernel_values.specs.declared.times.Limit.{Limit}

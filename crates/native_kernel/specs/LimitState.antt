@@ -1,5 +1,5 @@
 -- The limits as contracts see them.
-use Rattle.std.specs.Prelude.{ℕ, ◌^◌, ◌≤◌, List, Option, Some, None}
+use Rattle.std.specs.Prelude.{◌^◌, ◌≤◌, List, Option, Some, None}
 use Rattle.kernel_values.specs.declared.times.Limit.{Limit}
 
 -- the limit of each resource
