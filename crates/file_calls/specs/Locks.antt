@@ -1,5 +1,5 @@
 -- The commands of fcntl and fcntl64 on locks. The descriptor is tested before the lock is read: EBADF, then EFAULT.
-use Rattle.std.specs.Prelude.{ℕ, ⊤, false, Result, Err, if◌then◌else◌}
+use Rattle.std.specs.Prelude.{⊤, false, Result, Err, if◌then◌else◌}
 use Rattle.kernel_values.specs.declared.errno.Errno.{Errno}
 use Rattle.kernel_values.specs.declared.errno.Errno.TheVariants.{BadDescriptor}
 use Rattle.kernel_values.specs.declared.locks.Lock.{Lock}

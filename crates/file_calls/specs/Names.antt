@@ -1,5 +1,5 @@
 -- The calls that make, remove and move names. A path is read first: EFAULT, then ENAMETOOLONG; of two the first one first.
-use Rattle.std.specs.Prelude.{ℕ, pos, ⊤, false}
+use Rattle.std.specs.Prelude.{pos, ⊤, false}
 use Rattle.native_kernel.specs.declared.state.Kernel.{Kernel}
 use Rattle.native_kernel.specs.Operations as native
 use Rattle.abi_registers.specs.declared.arguments.Args.{Args}

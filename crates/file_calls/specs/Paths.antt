@@ -1,5 +1,5 @@
 -- The calls on paths. A path is read first: EFAULT, then ENAMETOOLONG.
-use Rattle.std.specs.Prelude.{ℕ, ℤ, negsuc, length, List, ⊤, false}
+use Rattle.std.specs.Prelude.{ℕ, length, List, ⊤, false}
 use Rattle.kernel_values.specs.OpenFlags.{from_word}
 use Rattle.kernel_values.specs.Bounds.{at_fdcwd}
 use Rattle.native_kernel.specs.declared.state.Kernel.{Kernel}

@@ -4,12 +4,13 @@
 use crate::serve_file;
 use abi_registers::Args;
 use call_tables::{
-    DescriptorOperation, FileOperation, LengthOperation, NameOperation, PathOperation,
-    StatusOperation, TransferOperation,
+    DescriptorOperation, FileOperation, LengthOperation, ListingOperation, NameOperation,
+    PathOperation, PipeOperation, RetimingOperation, StatusOperation, TransferOperation,
 };
 use kernel_values::{Answer, KernelFault, Usage};
 use layout_laws::{ArmEabi, Compat, Ia32};
 use native_kernel::{Identity, Kernel};
+use scratch_region::Scratch;
 use std::alloc::Global;
 use std::process::Abort;
 use std::test::Fail;
@@ -24,6 +25,9 @@ const OWNER: Identity = Identity {
     monotonic: 0,
     usage: Usage { words: [0; 18] },
 };
+
+/// As many bytes as a call on files may take of the region.
+const REGION_SIZE: usize = 16_384;
 
 const ENOENT: i64 = -2;
 
@@ -57,57 +61,57 @@ const PATHS: [(u32, &[u8]); 4] = [
     (0x1030, b"g"),
 ];
 
-const OPEN: FileOperation = FileOperation::Path(PathOperation::Open);
+const OPEN: FileOperation = FileOperation::Paths(PathOperation::Open);
 
-const OPENAT: FileOperation = FileOperation::Path(PathOperation::Openat);
+const OPENAT: FileOperation = FileOperation::Paths(PathOperation::Openat);
 
-const CHDIR: FileOperation = FileOperation::Path(PathOperation::Chdir);
+const CHDIR: FileOperation = FileOperation::Paths(PathOperation::Chdir);
 
-const GETCWD: FileOperation = FileOperation::Path(PathOperation::Getcwd);
+const GETCWD: FileOperation = FileOperation::Paths(PathOperation::Getcwd);
 
-const READ: FileOperation = FileOperation::Transfer(TransferOperation::Read);
+const READ: FileOperation = FileOperation::Transfers(TransferOperation::Read);
 
-const PREAD64: FileOperation = FileOperation::Transfer(TransferOperation::Pread64);
+const PREAD64: FileOperation = FileOperation::Transfers(TransferOperation::Pread64);
 
-const WRITE: FileOperation = FileOperation::Transfer(TransferOperation::Write);
+const WRITE: FileOperation = FileOperation::Transfers(TransferOperation::Write);
 
-const PWRITE64: FileOperation = FileOperation::Transfer(TransferOperation::Pwrite64);
+const PWRITE64: FileOperation = FileOperation::Transfers(TransferOperation::Pwrite64);
 
-const LSEEK: FileOperation = FileOperation::Transfer(TransferOperation::Lseek);
+const LSEEK: FileOperation = FileOperation::Transfers(TransferOperation::Lseek);
 
-const LLSEEK: FileOperation = FileOperation::Transfer(TransferOperation::Llseek);
+const LLSEEK: FileOperation = FileOperation::Transfers(TransferOperation::Llseek);
 
-const GETDENTS: FileOperation = FileOperation::Transfer(TransferOperation::Getdents);
+const GETDENTS: FileOperation = FileOperation::Listings(ListingOperation::Getdents);
 
-const GETDENTS64: FileOperation = FileOperation::Transfer(TransferOperation::Getdents64);
+const GETDENTS64: FileOperation = FileOperation::Listings(ListingOperation::Getdents64);
 
-const CLOSE: FileOperation = FileOperation::Descriptor(DescriptorOperation::Close);
+const CLOSE: FileOperation = FileOperation::Descriptors(DescriptorOperation::Close);
 
-const DUP: FileOperation = FileOperation::Descriptor(DescriptorOperation::Dup);
+const DUP: FileOperation = FileOperation::Descriptors(DescriptorOperation::Dup);
 
-const DUP2: FileOperation = FileOperation::Descriptor(DescriptorOperation::Dup2);
+const DUP2: FileOperation = FileOperation::Descriptors(DescriptorOperation::Dup2);
 
-const DUP3: FileOperation = FileOperation::Descriptor(DescriptorOperation::Dup3);
+const DUP3: FileOperation = FileOperation::Descriptors(DescriptorOperation::Dup3);
 
-const FCNTL: FileOperation = FileOperation::Descriptor(DescriptorOperation::Fcntl);
+const FCNTL: FileOperation = FileOperation::Descriptors(DescriptorOperation::Fcntl);
 
-const FCNTL64: FileOperation = FileOperation::Descriptor(DescriptorOperation::Fcntl64);
+const FCNTL64: FileOperation = FileOperation::Descriptors(DescriptorOperation::Fcntl64);
 
-const PIPE: FileOperation = FileOperation::Descriptor(DescriptorOperation::Pipe);
+const PIPE: FileOperation = FileOperation::Pipes(PipeOperation::Pipe);
 
-const PIPE2: FileOperation = FileOperation::Descriptor(DescriptorOperation::Pipe2);
+const PIPE2: FileOperation = FileOperation::Pipes(PipeOperation::Pipe2);
 
-const MKDIR: FileOperation = FileOperation::Name(NameOperation::Mkdir);
+const MKDIR: FileOperation = FileOperation::Names(NameOperation::Mkdir);
 
-const MKDIRAT: FileOperation = FileOperation::Name(NameOperation::Mkdirat);
+const MKDIRAT: FileOperation = FileOperation::Names(NameOperation::Mkdirat);
 
-const RMDIR: FileOperation = FileOperation::Name(NameOperation::Rmdir);
+const RMDIR: FileOperation = FileOperation::Names(NameOperation::Rmdir);
 
-const UNLINK: FileOperation = FileOperation::Name(NameOperation::Unlink);
+const UNLINK: FileOperation = FileOperation::Names(NameOperation::Unlink);
 
-const UNLINKAT: FileOperation = FileOperation::Name(NameOperation::Unlinkat);
+const UNLINKAT: FileOperation = FileOperation::Names(NameOperation::Unlinkat);
 
-const RENAME: FileOperation = FileOperation::Name(NameOperation::Rename);
+const RENAME: FileOperation = FileOperation::Names(NameOperation::Rename);
 
 const STAT: FileOperation = FileOperation::Status(StatusOperation::Stat);
 
@@ -119,15 +123,15 @@ const FSTAT64: FileOperation = FileOperation::Status(StatusOperation::Fstat64);
 
 const FSTATAT64: FileOperation = FileOperation::Status(StatusOperation::Fstatat64);
 
-const UTIMENSAT: FileOperation = FileOperation::Status(StatusOperation::Utimensat);
+const UTIMENSAT: FileOperation = FileOperation::Retiming(RetimingOperation::Utimensat);
 
-const TRUNCATE: FileOperation = FileOperation::Length(LengthOperation::Truncate);
+const TRUNCATE: FileOperation = FileOperation::Lengths(LengthOperation::Truncate);
 
-const TRUNCATE64: FileOperation = FileOperation::Length(LengthOperation::Truncate64);
+const TRUNCATE64: FileOperation = FileOperation::Lengths(LengthOperation::Truncate64);
 
-const FTRUNCATE: FileOperation = FileOperation::Length(LengthOperation::Ftruncate);
+const FTRUNCATE: FileOperation = FileOperation::Lengths(LengthOperation::Ftruncate);
 
-const FALLOCATE: FileOperation = FileOperation::Length(LengthOperation::Fallocate);
+const FALLOCATE: FileOperation = FileOperation::Lengths(LengthOperation::Fallocate);
 
 #[derive(Drop)]
 struct World {
@@ -190,8 +194,11 @@ fn answer<A: Compat>(
     values: [i64; 6],
 ) -> i64 {
     let args = Args { values, count: 6 };
+    let Ok(mut scratch) = Scratch::new(alloc, REGION_SIZE) else {
+        return i64::MIN;
+    };
     let World { memory, kernel } = world;
-    match serve_file::<A>(alloc, memory, kernel, operation, &args) {
+    match serve_file::<A>(alloc, memory, kernel, &mut scratch, operation, &args) {
         Ok(word) => i64::from(word),
         Err(KernelFault::Errno(errno)) => -i64::from(errno.number()),
         Err(KernelFault::OutOfMemory) => i64::MIN,
