@@ -5,12 +5,13 @@ use Rattle.abi_registers.specs.declared.arguments.Form.{Form}
 use Rattle.abi_registers.specs.declared.arguments.Form.TheVariants.{Word, Signed, Pair}
 use Rattle.call_tables.specs.declared.operation.Operation.{Operation}
 use Rattle.call_tables.specs.declared.operation.Operation.TheVariants.{Files, Times, Limits, Identity}
-use Rattle.call_tables.specs.declared.operation.FileOperation.TheVariants.{Paths, Names, Descriptors, Pipes, Transfers, Listings, Status, Retiming, Lengths}
+use Rattle.call_tables.specs.declared.operation.FileOperation.TheVariants.{Paths, Names, Descriptors, Pipes, Transfers, Vectors, Listings, Status, Retiming, Lengths}
 use Rattle.call_tables.specs.declared.operation.PathOperation.TheVariants as path
 use Rattle.call_tables.specs.declared.operation.NameOperation.TheVariants as name
 use Rattle.call_tables.specs.declared.operation.DescriptorOperation.TheVariants as descriptor
 use Rattle.call_tables.specs.declared.operation.PipeOperation.TheVariants as pipe
 use Rattle.call_tables.specs.declared.operation.TransferOperation.TheVariants as transfer
+use Rattle.call_tables.specs.declared.operation.VectorOperation.TheVariants as vector
 use Rattle.call_tables.specs.declared.operation.ListingOperation.TheVariants as listing
 use Rattle.call_tables.specs.declared.operation.StatusOperation.TheVariants as status
 use Rattle.call_tables.specs.declared.operation.RetimingOperation.TheVariants as retiming
@@ -76,6 +77,14 @@ transfer_calls =
     line (Files (Transfers transfer.Write)) (codes "write") (Both 4) (Signed ∷ Word ∷ Word ∷ []) ∷  -- write(fd, buf, count)
     []
 
+abbrev pub vector_calls : List Line
+vector_calls =
+    line (Files (Vectors vector.Preadv)) (codes "preadv") (By 333 361) (Signed ∷ Word ∷ Word ∷ Word ∷ Word ∷ []) ∷  -- preadv(fd, vec, vlen, pos_l, pos_h)
+    line (Files (Vectors vector.Pwritev)) (codes "pwritev") (By 334 362) (Signed ∷ Word ∷ Word ∷ Word ∷ Word ∷ []) ∷  -- pwritev(fd, vec, vlen, pos_l, pos_h)
+    line (Files (Vectors vector.Readv)) (codes "readv") (Both 145) (Signed ∷ Word ∷ Word ∷ []) ∷  -- readv(fd, vec, vlen)
+    line (Files (Vectors vector.Writev)) (codes "writev") (Both 146) (Signed ∷ Word ∷ Word ∷ []) ∷  -- writev(fd, vec, vlen)
+    []
+
 abbrev pub listing_calls : List Line
 listing_calls =
     line (Files (Listings listing.Getdents)) (codes "getdents") (Both 141) (Signed ∷ Word ∷ Word ∷ []) ∷  -- getdents(fd, buf, count)
@@ -135,7 +144,7 @@ identity_calls =
 -- the calls on files
 unfoldable pub file_calls : List Line
 file_calls =
-    path_calls ++ name_calls ++ descriptor_calls ++ pipe_calls ++ transfer_calls ++ listing_calls ++ status_calls ++ retiming_calls ++ length_calls
+    path_calls ++ name_calls ++ descriptor_calls ++ pipe_calls ++ transfer_calls ++ vector_calls ++ listing_calls ++ status_calls ++ retiming_calls ++ length_calls
 
 -- all other calls
 unfoldable pub other_calls : List Line

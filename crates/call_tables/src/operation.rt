@@ -18,6 +18,7 @@ pub enum FileOperation {
     Descriptors(DescriptorOperation),
     Pipes(PipeOperation),
     Transfers(TransferOperation),
+    Vectors(VectorOperation),
     Listings(ListingOperation),
     Status(StatusOperation),
     Retiming(RetimingOperation),
@@ -71,6 +72,15 @@ pub enum TransferOperation {
     Pwrite64,
     Read,
     Write,
+}
+
+/// The calls that move the bytes of vectors.
+#[derive(Clone, Copy, Debug, PartialEq, Eq)]
+pub enum VectorOperation {
+    Preadv,
+    Pwritev,
+    Readv,
+    Writev,
 }
 
 /// The calls that list directories.

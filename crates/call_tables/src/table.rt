@@ -24,6 +24,7 @@ use crate::operation::RetimingOperation::*;
 use crate::operation::StatusOperation::*;
 use crate::operation::TimeOperation::*;
 use crate::operation::TransferOperation::*;
+use crate::operation::VectorOperation::*;
 use Numbers::{Both, By};
 use abi_registers::Form;
 
@@ -64,6 +65,7 @@ const FILE_TABLES: &[&[Entry]] = &[
     DESCRIPTORS,
     PIPES,
     TRANSFERS,
+    VECTORS,
     LISTINGS,
     STATUS,
     RETIMING,
@@ -132,6 +134,14 @@ const TRANSFERS: &[Entry] = &[
     Entry(Files(Transfers(Pwrite64)), "pwrite64", Both(181), 4, [S, W, W, Q, W, W]),
     Entry(Files(Transfers(Read)), "read", Both(3), 3, [S, W, W, W, W, W]),
     Entry(Files(Transfers(Write)), "write", Both(4), 3, [S, W, W, W, W, W]),
+];
+
+#[rattlefmt::skip]
+const VECTORS: &[Entry] = &[
+    Entry(Files(Vectors(Preadv)), "preadv", By(333, 361), 5, [S, W, W, W, W, W]),
+    Entry(Files(Vectors(Pwritev)), "pwritev", By(334, 362), 5, [S, W, W, W, W, W]),
+    Entry(Files(Vectors(Readv)), "readv", Both(145), 3, [S, W, W, W, W, W]),
+    Entry(Files(Vectors(Writev)), "writev", Both(146), 3, [S, W, W, W, W, W]),
 ];
 
 #[rattlefmt::skip]

@@ -8,7 +8,7 @@ use kernel_values::AbiKind::{ArmEabi, Ia32};
 use std::test::*;
 
 /// A call with its numbers on i386 and arm, its name, its count, and its first forms.
-const CALLS: [(u32, u32, &[u8], usize, [Form; 2]); 46] = [
+const CALLS: [(u32, u32, &[u8], usize, [Form; 2]); 50] = [
     (1, 1, b"exit", 1, [Signed, Word]),
     (3, 3, b"read", 3, [Signed, Word]),
     (4, 4, b"write", 3, [Signed, Word]),
@@ -34,6 +34,8 @@ const CALLS: [(u32, u32, &[u8], usize, [Form; 2]); 46] = [
     (108, 108, b"fstat", 2, [Signed, Word]),
     (140, 140, b"_llseek", 5, [Signed, Word]),
     (141, 141, b"getdents", 3, [Signed, Word]),
+    (145, 145, b"readv", 3, [Signed, Word]),
+    (146, 146, b"writev", 3, [Signed, Word]),
     (162, 162, b"nanosleep", 2, [Word, Word]),
     (183, 183, b"getcwd", 2, [Word, Word]),
     (191, 191, b"ugetrlimit", 2, [Word, Word]),
@@ -54,6 +56,8 @@ const CALLS: [(u32, u32, &[u8], usize, [Form; 2]); 46] = [
     (296, 323, b"mkdirat", 3, [Signed, Word]),
     (330, 358, b"dup3", 3, [Signed, Signed]),
     (331, 359, b"pipe2", 2, [Word, Word]),
+    (333, 361, b"preadv", 5, [Signed, Word]),
+    (334, 362, b"pwritev", 5, [Signed, Word]),
     (340, 369, b"prlimit64", 4, [Signed, Word]),
 ];
 

@@ -5,7 +5,7 @@ use Rattle.abi_registers.specs.declared.arguments.Args.{Args}
 use Rattle.abi_registers.specs.Values.{word}
 use Rattle.layout_laws.specs.Abis.{AbiRules}
 use Rattle.call_tables.specs.declared.operation.FileOperation.{FileOperation}
-use Rattle.call_tables.specs.declared.operation.FileOperation.TheVariants.{Paths, Names, Descriptors, Pipes, Transfers, Listings, Status, Retiming, Lengths}
+use Rattle.call_tables.specs.declared.operation.FileOperation.TheVariants.{Paths, Names, Descriptors, Pipes, Transfers, Vectors, Listings, Status, Retiming, Lengths}
 use Rattle.call_tables.specs.declared.operation.PathOperation.{PathOperation}
 use Rattle.call_tables.specs.declared.operation.PathOperation.TheVariants.{Chdir, Getcwd, Open, Openat}
 use Rattle.call_tables.specs.declared.operation.NameOperation.{NameOperation}
@@ -16,6 +16,8 @@ use Rattle.call_tables.specs.declared.operation.PipeOperation.{PipeOperation}
 use Rattle.call_tables.specs.declared.operation.PipeOperation.TheVariants.{Pipe, Pipe2}
 use Rattle.call_tables.specs.declared.operation.TransferOperation.{TransferOperation}
 use Rattle.call_tables.specs.declared.operation.TransferOperation.TheVariants.{Llseek, Lseek, Pread64, Pwrite64, Read, Write}
+use Rattle.call_tables.specs.declared.operation.VectorOperation.{VectorOperation}
+use Rattle.call_tables.specs.declared.operation.VectorOperation.TheVariants.{Preadv, Pwritev, Readv, Writev}
 use Rattle.call_tables.specs.declared.operation.ListingOperation.{ListingOperation}
 use Rattle.call_tables.specs.declared.operation.ListingOperation.TheVariants.{Getdents, Getdents64}
 use Rattle.call_tables.specs.declared.operation.StatusOperation.{StatusOperation}
@@ -36,6 +38,8 @@ use Rattle.file_calls.specs.Pipes as pipes
 use Rattle.file_calls.specs.Retiming as retiming
 use Rattle.file_calls.specs.Status as status
 use Rattle.file_calls.specs.Transfers as transfers
+use Rattle.file_calls.specs.VectorFetch.{vector_need}
+use Rattle.file_calls.specs.Vectors as vectors
 
 unfoldable pub path_service : PathOperation → AbiRules → Args → Memory → Kernel → Service Kernel
 path_service Chdir abi args m k = spare (served (paths.chdir abi args) m k)
@@ -71,6 +75,12 @@ transfer_service Pwrite64 abi args m k = taking (served (transfers.pwrite64 abi 
 transfer_service Read abi args m k = taking_if (moves_bytes (transfers.read abi args m k).operation.0) (served (transfers.read abi args) m k)
 transfer_service Write abi args m k = taking (served (transfers.write abi args) m k)
 
+unfoldable pub vector_service : VectorOperation → AbiRules → Args → Memory → Kernel → Service Kernel
+vector_service Preadv abi args m k = taking_if (moves_bytes (vectors.preadv abi args m k).operation.0) (served (vectors.preadv abi args) m k)
+vector_service Pwritev abi args m k = taking (served (vectors.pwritev abi args) m k)
+vector_service Readv abi args m k = taking_if (moves_bytes (vectors.readv abi args m k).operation.0) (served (vectors.readv abi args) m k)
+vector_service Writev abi args m k = taking (served (vectors.writev abi args) m k)
+
 unfoldable pub listing_service : ListingOperation → AbiRules → Args → Memory → Kernel → Service Kernel
 listing_service Getdents abi args m k = taking (listings.getdents false args m k)
 listing_service Getdents64 abi args m k = taking (listings.getdents true args m k)
@@ -98,10 +108,18 @@ file_service (Names call) abi args m k = name_service call abi args m k
 file_service (Descriptors call) abi args m k = descriptor_service call abi args m k
 file_service (Pipes call) abi args m k = pipe_service call abi args m k
 file_service (Transfers call) abi args m k = transfer_service call abi args m k
+file_service (Vectors call) abi args m k = vector_service call abi args m k
 file_service (Listings call) abi args m k = listing_service call abi args m k
 file_service (Status call) abi args m k = status_service call abi args m k
 file_service (Retiming call) abi args m k = retiming_service call abi args m k
 file_service (Lengths call) abi args m k = length_service call abi args m k
+
+-- how many bytes of the region for translation a call on vectors takes
+abbrev pub vector_call_need : VectorOperation → Args → Kernel → ℕ
+vector_call_need Preadv args k = vector_need true args k
+vector_call_need Pwritev args k = vector_need false args k
+vector_call_need Readv args k = vector_need true args k
+vector_call_need Writev args k = vector_need false args k
 
 -- how many bytes of the region for translation the call takes
 unfoldable pub file_need : FileOperation → Args → Kernel → ℕ
@@ -110,6 +128,7 @@ file_need (Names call) args k = 0
 file_need (Descriptors call) args k = 0
 file_need (Pipes call) args k = 0
 file_need (Transfers call) args k = 0
+file_need (Vectors call) args k = vector_call_need call args k
 file_need (Listings call) args k = 0
 file_need (Status call) args k = 0
 file_need (Retiming call) args k = 0

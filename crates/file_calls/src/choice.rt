@@ -4,13 +4,16 @@ ghost use Rattle.std.specs.Prelude.{◌≤◌};
 ghost use Rattle.layout_laws.specs.Abis.{rules};
 ghost use Rattle.scratch_region.specs.Needs.{IsEmpty, Takes};
 ghost use Rattle.served_calls.specs.Calls.{ServesAs};
-ghost use Rattle.file_calls.specs.Choice.{descriptor_service, file_need, file_service, length_service, listing_service, name_service, path_service, pipe_service, retiming_service, status_service, transfer_service};
+ghost use Rattle.file_calls.specs.Choice.{descriptor_service, file_need, file_service, length_service, listing_service, name_service, path_service, pipe_service, retiming_service, status_service, transfer_service, vector_call_need, vector_service};
 
-use crate::{descriptors, lengths, listings, names, paths, pipes, retiming, status, transfers};
+use crate::{
+    descriptors, lengths, listings, names, paths, pipes, retiming, status, transfers, vectors,
+};
 use abi_registers::Args;
 use call_tables::{
     DescriptorOperation, FileOperation, LengthOperation, ListingOperation, NameOperation,
     PathOperation, PipeOperation, RetimingOperation, StatusOperation, TransferOperation,
+    VectorOperation,
 };
 use kernel_values::Answer;
 use layout_laws::Compat;
@@ -113,6 +116,28 @@ fn serve_transfer<A: Compat>(
     }
 }
 
+#[tactic(auto, unfolding(crate::specs::Choice::vector_service))]
+fn serve_vector<A: Compat>(
+    alloc: Global,
+    memory: &mut UserMemory,
+    kernel: &mut Kernel,
+    scratch: &mut Scratch,
+    operation: VectorOperation,
+    args: &Args,
+) -> Answer<u32>
+    requires empty { IsEmpty scratch.old }
+    requires room { 16384 ≤ scratch.old.capacity }
+    ensures serves { ServesAs result memory.new kernel.new (vector_service operation (rules A.KIND A.ALIGN64) args.now memory.old kernel.old) }
+    ensures region { Takes (vector_call_need operation args.now kernel.old) result scratch.old scratch.new }
+{
+    match operation {
+        VectorOperation::Preadv => vectors::preadv::<A>(alloc, memory, kernel, scratch, args),
+        VectorOperation::Pwritev => vectors::pwritev::<A>(alloc, memory, kernel, scratch, args),
+        VectorOperation::Readv => vectors::readv::<A>(alloc, memory, kernel, scratch, args),
+        VectorOperation::Writev => vectors::writev::<A>(alloc, memory, kernel, scratch, args),
+    }
+}
+
 #[tactic(auto, unfolding(crate::specs::Choice::listing_service))]
 fn serve_listing<A: Compat>(
     alloc: Global,
@@ -203,6 +228,9 @@ pub fn serve_file<A: Compat>(
         ),
         FileOperation::Pipes(call) => serve_pipe::<A>(alloc, memory, kernel, call, args),
         FileOperation::Transfers(call) => serve_transfer::<A>(alloc, memory, kernel, call, args),
+        FileOperation::Vectors(call) => serve_vector::<A>(
+            alloc, memory, kernel, scratch, call, args,
+        ),
         FileOperation::Listings(call) => serve_listing::<A>(alloc, memory, kernel, call, args),
         FileOperation::Status(call) => serve_status::<A>(memory, kernel, call, args),
         FileOperation::Retiming(call) => serve_retiming::<A>(memory, kernel, call, args),

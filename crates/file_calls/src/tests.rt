@@ -6,6 +6,7 @@ use abi_registers::Args;
 use call_tables::{
     DescriptorOperation, FileOperation, LengthOperation, ListingOperation, NameOperation,
     PathOperation, PipeOperation, RetimingOperation, StatusOperation, TransferOperation,
+    VectorOperation,
 };
 use kernel_values::{Answer, KernelFault, Usage};
 use layout_laws::{ArmEabi, Compat, Ia32};
@@ -84,6 +85,14 @@ const LLSEEK: FileOperation = FileOperation::Transfers(TransferOperation::Llseek
 const GETDENTS: FileOperation = FileOperation::Listings(ListingOperation::Getdents);
 
 const GETDENTS64: FileOperation = FileOperation::Listings(ListingOperation::Getdents64);
+
+const READV: FileOperation = FileOperation::Vectors(VectorOperation::Readv);
+
+const WRITEV: FileOperation = FileOperation::Vectors(VectorOperation::Writev);
+
+const PREADV: FileOperation = FileOperation::Vectors(VectorOperation::Preadv);
+
+const PWRITEV: FileOperation = FileOperation::Vectors(VectorOperation::Pwritev);
 
 const CLOSE: FileOperation = FileOperation::Descriptors(DescriptorOperation::Close);
 
@@ -298,6 +307,49 @@ fn bytes_are_moved(rt: HostRuntime) -> Result<(), Fail> {
     are_stored(&rt, &world, 0x2010, b"el\0\0\0\0\0\0");
     are_stored(&rt, &world, 0x2020, b"h/dlo/f\0");
     are_stored(&rt, &world, 0x2ff8, b"\0\0\0\0\0\0\0h");
+    Ok(())
+}
+
+/// Stores entries of vectors from 0x1100 on: each is an address and a length.
+fn put_entries(world: &mut World, entries: &[(u32, u32)]) {
+    let mut at = 0x1100;
+    for (base, count) in entries {
+        let _ = world.memory.copy_out(at, &base.to_le_bytes());
+        let _ = world
+            .memory
+            .copy_out(at.saturating_add(4), &count.to_le_bytes());
+        at = at.saturating_add(8);
+    }
+}
+
+#[test]
+fn bytes_of_vectors_are_moved(rt: HostRuntime) -> Result<(), Fail> {
+    let mut world = start(rt.alloc()).ok_or("memory")?;
+    put_entries(
+        &mut world,
+        &[
+            (0x2000, 2),
+            (0x9000, 0),
+            (0x2010, 9),
+            (0x2000, 1),
+            (0x2010, 2),
+        ],
+    );
+    let calls = [
+        (OPEN, [0x1000, 2, 0, 0], 0),
+        (READV, [0, 0x1100, 3, 0], 5),
+        (READV, [0, 0x1100, 3, 0], 0),
+        (WRITEV, [0, 0x1118, 2, 0], 3),
+        (PREADV, [0, 0x1110, 1, 4], 4),
+        (PWRITEV, [0, 0x1100, 1, 7], 2),
+        (PREADV, [0, 0x1110, 1, 6], 3),
+        (READV, [0, 0x1100, 1_025, 0], EINVAL),
+        (READV, [0, 0x3ffc, 1, 0], EFAULT),
+        (WRITEV, [9, 0x3ffc, 1_025, 0], EBADF),
+    ];
+    are_served::<Ia32>(&rt, rt.alloc(), &mut world, &calls);
+    are_stored(&rt, &world, 0x2000, b"he\0\0\0\0\0\0");
+    are_stored(&rt, &world, 0x2010, b"lhel\0\0\0\0");
     Ok(())
 }
 

@@ -145,7 +145,7 @@ pub fn lseek<A: Compat>(memory: &mut UserMemory, kernel: &mut Kernel, args: &Arg
 
 /// A signed number of 64 bits, from its high and its low word.
 #[tactic(auto, unfolding(crate::specs::Transfers::halves))]
-fn halves(high: u32, low: u32) -> i64
+pub(crate) fn halves(high: u32, low: u32) -> i64
     ensures { result ≡ halves high low }
 {
     (u64::from(high) * 0x1_0000_0000 + u64::from(low)).cast_signed()

@@ -3,3 +3,4 @@ pub mod Directories
 pub mod Locks
 pub mod Positions
 pub mod Stats
+pub mod Vectors

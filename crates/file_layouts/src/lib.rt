@@ -1,4 +1,4 @@
-//! What calls on files store for 32-bit processes, by the Linux UAPI headers for i386 and arm.
+//! What calls on files fetch and store for 32-bit processes, by the Linux UAPI headers for i386 and arm.
 #![tactic(auto)]
 
 pub mod descriptors;
@@ -7,6 +7,7 @@ pub mod locks;
 pub mod positions;
 pub mod stat;
 pub mod stat64;
+pub mod vectors;
 mod words;
 
 pub use descriptors::DescriptorPair;
@@ -15,6 +16,7 @@ pub use locks::{Lock32, Lock64};
 pub use positions::Position64;
 pub use stat::Stat32;
 pub use stat64::Stat64;
+pub use vectors::{IoVec32, IoVec64};
 
 #[cfg(test)]
 mod tests;

@@ -1,6 +1,9 @@
-use crate::{DescriptorPair, DirentFault, Lock32, Lock64, Position64, Stat32, Stat64, put_dirent};
+use crate::{
+    DescriptorPair, DirentFault, IoVec32, IoVec64, Lock32, Lock64, Position64, Stat32, Stat64,
+    put_dirent,
+};
 use kernel_values::{DirEntry, Lock, NameText, Stat, TimeSpec};
-use layout_laws::{Abi, ArmEabi, Ia32, Layout, StoreFault, fetch, store};
+use layout_laws::{Abi, ArmEabi, Ia32, Layout, Native64, StoreFault, fetch, store};
 use std::process::Abort;
 use std::test::Fail;
 use user_memory::{Rights, UserMemory};
@@ -315,5 +318,31 @@ fn wide_records(rt: HostRuntime) -> Result<(), Fail> {
         0, 0, 0, 0, 1, 0, 0, 0, 4, 0, 0, 0, 0, 0, 0, 0, 24, 0, 8, 0x62, 0, 0, 0, 0, 0xff, 0xff,
     ];
     assert_eq!(rt; bytes, expected);
+    Ok(())
+}
+
+#[test]
+fn entries_of_vectors(rt: HostRuntime) -> Result<(), Fail> {
+    let mut bytes = [0; 8];
+    let entry = IoVec32 {
+        base: 0x1122_3344,
+        count: 0x8000_0005,
+    };
+    let back = stored::<Ia32, IoVec32, _>(&rt, &entry, &mut bytes)?;
+    assert_eq!(rt; bytes, [0x44, 0x33, 0x22, 0x11, 5, 0, 0, 0x80]);
+    assert_eq!(rt; back, entry);
+    let mut wide_bytes = [0; 16];
+    let wide = IoVec64 {
+        base: 0x1122_3344_5566_7788,
+        count: 5,
+    };
+    let wide_back = stored::<Native64, IoVec64, _>(&rt, &wide, &mut wide_bytes)?;
+    assert_eq!(rt;
+        wide_bytes,
+        [
+            0x88, 0x77, 0x66, 0x55, 0x44, 0x33, 0x22, 0x11, 5, 0, 0, 0, 0, 0, 0, 0
+        ]
+    );
+    assert_eq!(rt; wide_back, wide);
     Ok(())
 }
