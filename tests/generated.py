@@ -1,7 +1,8 @@
 """Runs the program on scripts that are made here, and compares what it answers with what the layouts say: generated.py PROGRAM
 
-Two kinds: each stored structure with the first byte that can't be written at each of its offsets, and a directory of 1,000 names
-listed through buffers of every size from 1 to 64 bytes above a record.
+Three kinds: each stored structure of the calls on files with the first byte that can't be written at each of its offsets, structures that are read
+with the first byte that can't be read at each of theirs, and a directory of 1,000 names listed through buffers of every size from 1 to 64
+bytes above a record.
 """
 import struct
 import subprocess
@@ -24,10 +25,10 @@ class Abi:
         return "call " + " ".join(f"{word:x}" for word in registers)
 
 
-COMMON = {"open": 5, "lseek": 19, "pipe": 42, "fcntl": 55, "stat": 106, "fstat": 108, "_llseek": 140, "getdents": 141, "stat64": 195, "fstat64": 197, "fcntl64": 221}
+COMMON = {"open": 5, "lseek": 19, "pipe": 42, "ioctl": 54, "fcntl": 55, "setrlimit": 75, "_newselect": 142, "writev": 146, "nanosleep": 162, "poll": 168, "sendfile": 187, "sendfile64": 239, "stat": 106, "fstat": 108, "_llseek": 140, "getdents": 141, "stat64": 195, "fstat64": 197, "fcntl64": 221}
 ABIS = [
-    Abi("ia32", COMMON | {"getdents64": 220, "fstatat64": 300}, {"stat": 64, "stat64": 96, "flock": 16, "flock64": 24}),
-    Abi("arm", COMMON | {"getdents64": 217, "fstatat64": 327}, {"stat": 64, "stat64": 104, "flock": 16, "flock64": 32}),
+    Abi("ia32", COMMON | {"getdents64": 220, "fstatat64": 300, "utimensat": 320, "prlimit64": 340}, {"stat": 64, "stat64": 96, "flock": 16, "flock64": 24}),
+    Abi("arm", COMMON | {"getdents64": 217, "fstatat64": 327, "utimensat": 348, "prlimit64": 369}, {"stat": 64, "stat64": 104, "flock": 16, "flock64": 32}),
 ]
 
 
@@ -73,6 +74,14 @@ def stored_in_part(program, abi):
     add("fcntl64", abi.sizes["flock64"], 0, 12, place=2, set_up=["poke {at} " + "00" * abi.sizes["flock64"]])
     add("_llseek", 8, 0, 0, 0, 0, place=3)
     add("pipe", 8, place=0)
+    # Both ends of that pipe are at 2 and 3. An offset, an entry of poll without descriptor events, and sets without a bit are read and stored again.
+    add("ioctl", 4, 2, 0x541b, place=2)
+    add("sendfile", 4, 3, 0, 0, place=2, set_up=["poke {at} " + "00" * 4])
+    add("sendfile64", 8, 3, 0, 0, place=2, set_up=["poke {at} " + "00" * 8])
+    add("poll", 8, 1, 0, place=0, set_up=["poke {at} " + "00" * 8])
+    for count, size in ((1, 4), (33, 8)):
+        for place in (1, 2, 3):
+            add("_newselect", size, count, 0, 0, 0, place=place, set_up=["poke {at} " + "00" * size])
     # Records of a listing: as many as can be stored whole; the first one's fault is the answer.
     for name, lengths in (("getdents", [16, 16, 16]), ("getdents64", [24, 24, 24])):
         for writable in range(sum(lengths) + 1):
@@ -83,6 +92,30 @@ def stored_in_part(program, abi):
     wrong = []
     for number, ((result, memory), want) in enumerate(zip(answers(program, image + calls), wanted, strict=True), 1):
         if result != want or (want == EFAULT and memory):
+            wrong.append(f"{abi.name}: call {number} answered {result:x} with {len(memory)} bytes changed, not {want:x}")
+    return wrong
+
+
+def read_in_part(program, abi):
+    """Structures of zeros that end past the last byte that can be read: refused."""
+    image = [f"abi {abi.name} 1", f"page 1000 rw {text('/f')}", "page 3000 r -", "file /f 7 5"]
+    calls, wanted = [abi.call("open", 0x1000, 2)], [0]
+
+    def add(name, size, *words, place):
+        for readable in range(size + 1):
+            calls.append(abi.call(name, *words[:place], 0x4000 - readable, *words[place:]))
+            wanted.append(0 if readable == size else EFAULT)
+
+    add("writev", 8, 0, 1, place=1)
+    add("writev", 24, 0, 3, place=1)
+    add("_newselect", 8, 1, 0, 0, 0, place=4)
+    add("utimensat", 16, 0xffff_ff9c, 0x1000, 0, place=2)
+    add("nanosleep", 8, 0, place=0)
+    add("setrlimit", 8, 1, place=1)
+    add("prlimit64", 16, 0, 1, 0, place=2)
+    wrong = []
+    for number, ((result, memory), want) in enumerate(zip(answers(program, image + calls), wanted, strict=True), 1):
+        if result != want or memory:
             wrong.append(f"{abi.name}: call {number} answered {result:x} with {len(memory)} bytes changed, not {want:x}")
     return wrong
 
@@ -138,6 +171,7 @@ def main():
     wrong = []
     for abi in ABIS:
         wrong += stored_in_part(program, abi)
+        wrong += read_in_part(program, abi)
         wrong += listed(program, abi, "getdents", 20, names)
         wrong += listed(program, abi, "getdents64", 32, names)
     for fault in wrong[:8]:

@@ -4,18 +4,20 @@ use Rattle.std.specs.Prelude.{ℕ, List, [], ◌∷◌, ◌++◌, codes}
 use Rattle.abi_registers.specs.declared.arguments.Form.{Form}
 use Rattle.abi_registers.specs.declared.arguments.Form.TheVariants.{Word, Signed, Pair}
 use Rattle.call_tables.specs.declared.operation.Operation.{Operation}
-use Rattle.call_tables.specs.declared.operation.Operation.TheVariants.{Files, Times, Limits, Identity}
-use Rattle.call_tables.specs.declared.operation.FileOperation.TheVariants.{Paths, Names, Descriptors, Pipes, Transfers, Vectors, Listings, Status, Retiming, Lengths}
+use Rattle.call_tables.specs.declared.operation.Operation.TheVariants.{Files, Readiness, Times, Limits, Identity}
+use Rattle.call_tables.specs.declared.operation.FileOperation.TheVariants.{Paths, Names, Descriptors, Pipes, Transfers, Vectors, Sending, Listings, Status, Retiming, Lengths}
 use Rattle.call_tables.specs.declared.operation.PathOperation.TheVariants as path
 use Rattle.call_tables.specs.declared.operation.NameOperation.TheVariants as name
 use Rattle.call_tables.specs.declared.operation.DescriptorOperation.TheVariants as descriptor
 use Rattle.call_tables.specs.declared.operation.PipeOperation.TheVariants as pipe
 use Rattle.call_tables.specs.declared.operation.TransferOperation.TheVariants as transfer
 use Rattle.call_tables.specs.declared.operation.VectorOperation.TheVariants as vector
+use Rattle.call_tables.specs.declared.operation.SendingOperation.TheVariants as sending
 use Rattle.call_tables.specs.declared.operation.ListingOperation.TheVariants as listing
 use Rattle.call_tables.specs.declared.operation.StatusOperation.TheVariants as status
 use Rattle.call_tables.specs.declared.operation.RetimingOperation.TheVariants as retiming
 use Rattle.call_tables.specs.declared.operation.LengthOperation.TheVariants as lengths
+use Rattle.call_tables.specs.declared.operation.ReadinessOperation.TheVariants as readiness
 use Rattle.call_tables.specs.declared.operation.TimeOperation.TheVariants as time
 use Rattle.call_tables.specs.declared.operation.LimitOperation.TheVariants as limit
 use Rattle.call_tables.specs.declared.operation.IdentityOperation.TheVariants as identity
@@ -63,6 +65,7 @@ descriptor_calls =
 
 abbrev pub pipe_calls : List Line
 pipe_calls =
+    line (Files (Pipes pipe.Ioctl)) (codes "ioctl") (Both 54) (Signed ∷ Word ∷ Word ∷ []) ∷  -- ioctl(fd, command, argument)
     line (Files (Pipes pipe.Pipe)) (codes "pipe") (Both 42) (Word ∷ []) ∷  -- pipe(fds)
     line (Files (Pipes pipe.Pipe2)) (codes "pipe2") (By 331 359) (Word ∷ Word ∷ []) ∷  -- pipe2(fds, flags)
     []
@@ -83,6 +86,12 @@ vector_calls =
     line (Files (Vectors vector.Pwritev)) (codes "pwritev") (By 334 362) (Signed ∷ Word ∷ Word ∷ Word ∷ Word ∷ []) ∷  -- pwritev(fd, vec, vlen, pos_l, pos_h)
     line (Files (Vectors vector.Readv)) (codes "readv") (Both 145) (Signed ∷ Word ∷ Word ∷ []) ∷  -- readv(fd, vec, vlen)
     line (Files (Vectors vector.Writev)) (codes "writev") (Both 146) (Signed ∷ Word ∷ Word ∷ []) ∷  -- writev(fd, vec, vlen)
+    []
+
+abbrev pub sending_calls : List Line
+sending_calls =
+    line (Files (Sending sending.Sendfile)) (codes "sendfile") (Both 187) (Signed ∷ Signed ∷ Word ∷ Word ∷ []) ∷  -- sendfile(out_fd, in_fd, offset, count)
+    line (Files (Sending sending.Sendfile64)) (codes "sendfile64") (Both 239) (Signed ∷ Signed ∷ Word ∷ Word ∷ []) ∷  -- sendfile64(out_fd, in_fd, offset, count)
     []
 
 abbrev pub listing_calls : List Line
@@ -112,6 +121,12 @@ length_calls =
     line (Files (Lengths lengths.Ftruncate64)) (codes "ftruncate64") (Both 194) (Signed ∷ Pair ∷ []) ∷  -- ftruncate64(fd, length)
     line (Files (Lengths lengths.Truncate)) (codes "truncate") (Both 92) (Word ∷ Signed ∷ []) ∷  -- truncate(path, length)
     line (Files (Lengths lengths.Truncate64)) (codes "truncate64") (Both 193) (Word ∷ Pair ∷ []) ∷  -- truncate64(path, length)
+    []
+
+abbrev pub readiness_calls : List Line
+readiness_calls =
+    line (Readiness readiness.Newselect) (codes "_newselect") (Both 142) (Signed ∷ Word ∷ Word ∷ Word ∷ Word ∷ []) ∷  -- _newselect(n, inp, outp, exp, tvp)
+    line (Readiness readiness.Poll) (codes "poll") (Both 168) (Word ∷ Word ∷ Signed ∷ []) ∷  -- poll(ufds, nfds, timeout)
     []
 
 abbrev pub time_calls : List Line
@@ -144,11 +159,11 @@ identity_calls =
 -- the calls on files
 unfoldable pub file_calls : List Line
 file_calls =
-    path_calls ++ name_calls ++ descriptor_calls ++ pipe_calls ++ transfer_calls ++ vector_calls ++ listing_calls ++ status_calls ++ retiming_calls ++ length_calls
+    path_calls ++ name_calls ++ descriptor_calls ++ pipe_calls ++ transfer_calls ++ vector_calls ++ sending_calls ++ listing_calls ++ status_calls ++ retiming_calls ++ length_calls
 
 -- all other calls
 unfoldable pub other_calls : List Line
-other_calls = time_calls ++ limit_calls ++ identity_calls
+other_calls = readiness_calls ++ time_calls ++ limit_calls ++ identity_calls
 
 abbrev pub calls : List Line
 calls = file_calls ++ other_calls

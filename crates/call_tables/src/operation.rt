@@ -5,6 +5,7 @@
 #[derive(Clone, Copy, Debug, PartialEq, Eq)]
 pub enum Operation {
     Files(FileOperation),
+    Readiness(ReadinessOperation),
     Times(TimeOperation),
     Limits(LimitOperation),
     Identity(IdentityOperation),
@@ -19,6 +20,7 @@ pub enum FileOperation {
     Pipes(PipeOperation),
     Transfers(TransferOperation),
     Vectors(VectorOperation),
+    Sending(SendingOperation),
     Listings(ListingOperation),
     Status(StatusOperation),
     Retiming(RetimingOperation),
@@ -56,9 +58,10 @@ pub enum DescriptorOperation {
     Fcntl64,
 }
 
-/// The calls that make pipes.
+/// The calls on pipes alone: those that make them, and ioctl, which tells the bytes that wait in one.
 #[derive(Clone, Copy, Debug, PartialEq, Eq)]
 pub enum PipeOperation {
+    Ioctl,
     Pipe,
     Pipe2,
 }
@@ -81,6 +84,13 @@ pub enum VectorOperation {
     Pwritev,
     Readv,
     Writev,
+}
+
+/// The calls that send bytes of a file to another descriptor.
+#[derive(Clone, Copy, Debug, PartialEq, Eq)]
+pub enum SendingOperation {
+    Sendfile,
+    Sendfile64,
 }
 
 /// The calls that list directories.
@@ -114,6 +124,13 @@ pub enum LengthOperation {
     Ftruncate64,
     Truncate,
     Truncate64,
+}
+
+/// The calls that tell what descriptors are ready for.
+#[derive(Clone, Copy, Debug, PartialEq, Eq)]
+pub enum ReadinessOperation {
+    Newselect,
+    Poll,
 }
 
 /// The calls on clocks.

@@ -20,7 +20,9 @@ use crate::operation::Operation;
 use crate::operation::Operation::*;
 use crate::operation::PathOperation::*;
 use crate::operation::PipeOperation::*;
+use crate::operation::ReadinessOperation::*;
 use crate::operation::RetimingOperation::*;
+use crate::operation::SendingOperation::*;
 use crate::operation::StatusOperation::*;
 use crate::operation::TimeOperation::*;
 use crate::operation::TransferOperation::*;
@@ -66,13 +68,14 @@ const FILE_TABLES: &[&[Entry]] = &[
     PIPES,
     TRANSFERS,
     VECTORS,
+    SENDING,
     LISTINGS,
     STATUS,
     RETIMING,
     LENGTHS,
 ];
 
-const OTHER_TABLES: &[&[Entry]] = &[TIMES, LIMITS, IDENTITY];
+const OTHER_TABLES: &[&[Entry]] = &[READINESS, TIMES, LIMITS, IDENTITY];
 
 /// The tables of the calls on files.
 #[tactic(auto, unfolding(crate::specs::Calls::file_calls))]
@@ -122,6 +125,7 @@ const DESCRIPTORS: &[Entry] = &[
 
 #[rattlefmt::skip]
 const PIPES: &[Entry] = &[
+    Entry(Files(Pipes(Ioctl)), "ioctl", Both(54), 3, [S, W, W, W, W, W]),
     Entry(Files(Pipes(Pipe)), "pipe", Both(42), 1, [W, W, W, W, W, W]),
     Entry(Files(Pipes(Pipe2)), "pipe2", By(331, 359), 2, [W, W, W, W, W, W]),
 ];
@@ -142,6 +146,12 @@ const VECTORS: &[Entry] = &[
     Entry(Files(Vectors(Pwritev)), "pwritev", By(334, 362), 5, [S, W, W, W, W, W]),
     Entry(Files(Vectors(Readv)), "readv", Both(145), 3, [S, W, W, W, W, W]),
     Entry(Files(Vectors(Writev)), "writev", Both(146), 3, [S, W, W, W, W, W]),
+];
+
+#[rattlefmt::skip]
+const SENDING: &[Entry] = &[
+    Entry(Files(Sending(Sendfile)), "sendfile", Both(187), 4, [S, S, W, W, W, W]),
+    Entry(Files(Sending(Sendfile64)), "sendfile64", Both(239), 4, [S, S, W, W, W, W]),
 ];
 
 #[rattlefmt::skip]
@@ -171,6 +181,12 @@ const LENGTHS: &[Entry] = &[
     Entry(Files(Lengths(Ftruncate64)), "ftruncate64", Both(194), 2, [S, Q, W, W, W, W]),
     Entry(Files(Lengths(Truncate)), "truncate", Both(92), 2, [W, S, W, W, W, W]),
     Entry(Files(Lengths(Truncate64)), "truncate64", Both(193), 2, [W, Q, W, W, W, W]),
+];
+
+#[rattlefmt::skip]
+const READINESS: &[Entry] = &[
+    Entry(Readiness(Newselect), "_newselect", Both(142), 5, [S, W, W, W, W, W]),
+    Entry(Readiness(Poll), "poll", Both(168), 3, [W, W, S, W, W, W]),
 ];
 
 #[rattlefmt::skip]

@@ -1,14 +1,15 @@
 use crate::{
     DescriptorOperation, FileOperation, IdentityOperation, LengthOperation, LimitOperation,
-    ListingOperation, NameOperation, Operation, PathOperation, PipeOperation, RetimingOperation,
-    StatusOperation, TimeOperation, TransferOperation, find_row,
+    ListingOperation, NameOperation, Operation, PathOperation, PipeOperation, ReadinessOperation,
+    RetimingOperation, SendingOperation, StatusOperation, TimeOperation, TransferOperation,
+    VectorOperation, find_row,
 };
 use abi_registers::Form::{self, Pair, Signed, Word};
 use kernel_values::AbiKind::{ArmEabi, Ia32};
 use std::test::*;
 
 /// A call with its numbers on i386 and arm, its name, its count, and its first forms.
-const CALLS: [(u32, u32, &[u8], usize, [Form; 2]); 50] = [
+const CALLS: [(u32, u32, &[u8], usize, [Form; 2]); 54] = [
     (1, 1, b"exit", 1, [Signed, Word]),
     (3, 3, b"read", 3, [Signed, Word]),
     (4, 4, b"write", 3, [Signed, Word]),
@@ -23,6 +24,7 @@ const CALLS: [(u32, u32, &[u8], usize, [Form; 2]); 50] = [
     (40, 40, b"rmdir", 1, [Word, Word]),
     (41, 41, b"dup", 1, [Signed, Word]),
     (42, 42, b"pipe", 1, [Word, Word]),
+    (54, 54, b"ioctl", 3, [Signed, Word]),
     (55, 55, b"fcntl", 3, [Signed, Word]),
     (63, 63, b"dup2", 2, [Signed, Signed]),
     (75, 75, b"setrlimit", 2, [Word, Word]),
@@ -34,10 +36,12 @@ const CALLS: [(u32, u32, &[u8], usize, [Form; 2]); 50] = [
     (108, 108, b"fstat", 2, [Signed, Word]),
     (140, 140, b"_llseek", 5, [Signed, Word]),
     (141, 141, b"getdents", 3, [Signed, Word]),
+    (142, 142, b"_newselect", 5, [Signed, Word]),
     (145, 145, b"readv", 3, [Signed, Word]),
     (146, 146, b"writev", 3, [Signed, Word]),
     (162, 162, b"nanosleep", 2, [Word, Word]),
     (183, 183, b"getcwd", 2, [Word, Word]),
+    (187, 187, b"sendfile", 4, [Signed, Signed]),
     (191, 191, b"ugetrlimit", 2, [Word, Word]),
     (193, 193, b"truncate64", 2, [Word, Pair]),
     (194, 194, b"ftruncate64", 2, [Signed, Pair]),
@@ -47,6 +51,7 @@ const CALLS: [(u32, u32, &[u8], usize, [Form; 2]); 50] = [
     (200, 200, b"getgid32", 0, [Word, Word]),
     (220, 217, b"getdents64", 3, [Signed, Word]),
     (221, 221, b"fcntl64", 3, [Signed, Word]),
+    (239, 239, b"sendfile64", 4, [Signed, Signed]),
     (252, 248, b"exit_group", 1, [Signed, Word]),
     (264, 262, b"clock_settime", 2, [Signed, Word]),
     (265, 263, b"clock_gettime", 2, [Signed, Word]),
@@ -92,7 +97,8 @@ fn offsets_are_pairs(rt: HostRuntime) -> Result<(), Fail> {
 }
 
 /// A call with its numbers on i386 and arm, its name, its count, and its first four forms.
-const CALLS_OF_MORE_FORMS: [(u32, u32, &[u8], usize, [Form; 4]); 4] = [
+const CALLS_OF_MORE_FORMS: [(u32, u32, &[u8], usize, [Form; 4]); 5] = [
+    (168, 168, b"poll", 3, [Word, Word, Signed, Word]),
     (300, 327, b"fstatat64", 4, [Signed, Word, Word, Signed]),
     (301, 328, b"unlinkat", 3, [Signed, Word, Signed, Word]),
     (320, 348, b"utimensat", 4, [Signed, Word, Word, Signed]),
@@ -145,7 +151,7 @@ fn one_number_means_two_calls(rt: HostRuntime) -> Result<(), Fail> {
 }
 
 /// A number on i386, and its call: one of each kind.
-const OPERATIONS: [(u32, Operation); 12] = [
+const OPERATIONS: [(u32, Operation); 15] = [
     (
         5,
         Operation::Files(FileOperation::Paths(PathOperation::Open)),
@@ -167,6 +173,14 @@ const OPERATIONS: [(u32, Operation); 12] = [
         Operation::Files(FileOperation::Transfers(TransferOperation::Llseek)),
     ),
     (
+        146,
+        Operation::Files(FileOperation::Vectors(VectorOperation::Writev)),
+    ),
+    (
+        187,
+        Operation::Files(FileOperation::Sending(SendingOperation::Sendfile)),
+    ),
+    (
         220,
         Operation::Files(FileOperation::Listings(ListingOperation::Getdents64)),
     ),
@@ -182,6 +196,7 @@ const OPERATIONS: [(u32, Operation); 12] = [
         324,
         Operation::Files(FileOperation::Lengths(LengthOperation::Fallocate)),
     ),
+    (168, Operation::Readiness(ReadinessOperation::Poll)),
     (162, Operation::Times(TimeOperation::Nanosleep)),
     (191, Operation::Limits(LimitOperation::Ugetrlimit)),
     (252, Operation::Identity(IdentityOperation::ExitGroup)),

@@ -4,7 +4,7 @@ use Rattle.native_kernel.specs.declared.state.Kernel.{Kernel}
 use Rattle.abi_registers.specs.declared.arguments.Args.{Args}
 use Rattle.layout_laws.specs.Abis.{AbiRules}
 use Rattle.call_tables.specs.declared.operation.Operation.{Operation}
-use Rattle.call_tables.specs.declared.operation.Operation.TheVariants.{Files, Times, Limits, Identity}
+use Rattle.call_tables.specs.declared.operation.Operation.TheVariants.{Files, Readiness, Times, Limits, Identity}
 use Rattle.call_tables.specs.declared.operation.TimeOperation.{TimeOperation}
 use Rattle.call_tables.specs.declared.operation.TimeOperation.TheVariants.{ClockGetres, ClockGettime, ClockNanosleep, ClockSettime, Gettimeofday, Nanosleep}
 use Rattle.call_tables.specs.declared.operation.LimitOperation.{LimitOperation}
@@ -12,6 +12,7 @@ use Rattle.call_tables.specs.declared.operation.LimitOperation.TheVariants.{Prli
 use Rattle.call_tables.specs.declared.operation.IdentityOperation.{IdentityOperation}
 use Rattle.call_tables.specs.declared.operation.IdentityOperation.TheVariants.{Exit, ExitGroup, Getgid32, Getpid, Getrusage, Getuid32}
 use Rattle.served_calls.specs.Calls.{Memory, Service, served, spare}
+use Rattle.readiness_calls.specs.Choice.{readiness_service}
 use Rattle.file_calls.specs.Choice.{file_need, file_service}
 use Rattle.compat_calls.specs.Identity as identity
 use Rattle.compat_calls.specs.Limits as limits
@@ -40,6 +41,7 @@ identity_service Getuid32 abi args m k = spare (served (identity.getuid32 abi ar
 
 unfoldable pub call_service : Operation → AbiRules → Args → Memory → Kernel → Service Kernel
 call_service (Files call) abi args m k = file_service call abi args m k
+call_service (Readiness call) abi args m k = readiness_service call abi args m k
 call_service (Times call) abi args m k = time_service call abi args m k
 call_service (Limits call) abi args m k = limit_service call abi args m k
 call_service (Identity call) abi args m k = identity_service call abi args m k
@@ -47,6 +49,7 @@ call_service (Identity call) abi args m k = identity_service call abi args m k
 -- how many bytes of the region for translation the call takes
 unfoldable pub call_need : Operation → Args → Kernel → ℕ
 call_need (Files call) args k = file_need call args k
+call_need (Readiness call) args k = 0
 call_need (Times call) args k = 0
 call_need (Limits call) args k = 0
 call_need (Identity call) args k = 0

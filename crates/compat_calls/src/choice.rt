@@ -13,6 +13,7 @@ use file_calls::serve_file;
 use kernel_values::Answer;
 use layout_laws::Compat;
 use native_kernel::Kernel;
+use readiness_calls::serve_readiness;
 use scratch_region::Scratch;
 use std::alloc::Global;
 use user_memory::UserMemory;
@@ -89,6 +90,7 @@ pub fn serve_row<A: Compat>(
 {
     match operation {
         Operation::Files(call) => serve_file::<A>(alloc, memory, kernel, scratch, call, args),
+        Operation::Readiness(call) => serve_readiness::<A>(memory, kernel, call, args),
         Operation::Times(call) => serve_time::<A>(memory, kernel, call, args),
         Operation::Limits(call) => serve_limit::<A>(memory, kernel, call, args),
         Operation::Identity(call) => serve_identity::<A>(memory, kernel, call, args),

@@ -41,10 +41,15 @@ fn world(alloc: Global, privileged: bool, bytes: &[u8]) -> Result<World, Fail> {
     let mut identity = OWNER;
     identity.privileged = privileged;
     let mut world = World::new(alloc, &identity, 0)?;
-    world.memory.map_page(1, Rights::ReadWrite)?;
-    world.memory.map_page(3, Rights::Read)?;
-    world.memory.poke(0x1000, bytes)?;
+    map(&mut world, bytes).ok_or("memory")?;
     Ok(world)
+}
+
+/// A function that may end early has the world by reference: each end of one that owns it would be proved to let go of all its parts.
+fn map(world: &mut World, bytes: &[u8]) -> Option<()> {
+    world.memory.map_page(1, Rights::ReadWrite).ok()?;
+    world.memory.map_page(3, Rights::Read).ok()?;
+    world.memory.poke(0x1000, bytes).ok()
 }
 
 fn arm(number: u32, words: [u32; 4]) -> Registers {

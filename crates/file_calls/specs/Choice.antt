@@ -5,7 +5,7 @@ use Rattle.abi_registers.specs.declared.arguments.Args.{Args}
 use Rattle.abi_registers.specs.Values.{word}
 use Rattle.layout_laws.specs.Abis.{AbiRules}
 use Rattle.call_tables.specs.declared.operation.FileOperation.{FileOperation}
-use Rattle.call_tables.specs.declared.operation.FileOperation.TheVariants.{Paths, Names, Descriptors, Pipes, Transfers, Vectors, Listings, Status, Retiming, Lengths}
+use Rattle.call_tables.specs.declared.operation.FileOperation.TheVariants.{Paths, Names, Descriptors, Pipes, Transfers, Vectors, Sending, Listings, Status, Retiming, Lengths}
 use Rattle.call_tables.specs.declared.operation.PathOperation.{PathOperation}
 use Rattle.call_tables.specs.declared.operation.PathOperation.TheVariants.{Chdir, Getcwd, Open, Openat}
 use Rattle.call_tables.specs.declared.operation.NameOperation.{NameOperation}
@@ -13,11 +13,13 @@ use Rattle.call_tables.specs.declared.operation.NameOperation.TheVariants.{Mkdir
 use Rattle.call_tables.specs.declared.operation.DescriptorOperation.{DescriptorOperation}
 use Rattle.call_tables.specs.declared.operation.DescriptorOperation.TheVariants.{Close, Dup, Dup2, Dup3, Fcntl, Fcntl64}
 use Rattle.call_tables.specs.declared.operation.PipeOperation.{PipeOperation}
-use Rattle.call_tables.specs.declared.operation.PipeOperation.TheVariants.{Pipe, Pipe2}
+use Rattle.call_tables.specs.declared.operation.PipeOperation.TheVariants.{Ioctl, Pipe, Pipe2}
 use Rattle.call_tables.specs.declared.operation.TransferOperation.{TransferOperation}
 use Rattle.call_tables.specs.declared.operation.TransferOperation.TheVariants.{Llseek, Lseek, Pread64, Pwrite64, Read, Write}
 use Rattle.call_tables.specs.declared.operation.VectorOperation.{VectorOperation}
 use Rattle.call_tables.specs.declared.operation.VectorOperation.TheVariants.{Preadv, Pwritev, Readv, Writev}
+use Rattle.call_tables.specs.declared.operation.SendingOperation.{SendingOperation}
+use Rattle.call_tables.specs.declared.operation.SendingOperation.TheVariants.{Sendfile, Sendfile64}
 use Rattle.call_tables.specs.declared.operation.ListingOperation.{ListingOperation}
 use Rattle.call_tables.specs.declared.operation.ListingOperation.TheVariants.{Getdents, Getdents64}
 use Rattle.call_tables.specs.declared.operation.StatusOperation.{StatusOperation}
@@ -36,6 +38,7 @@ use Rattle.file_calls.specs.Names as names
 use Rattle.file_calls.specs.Paths as paths
 use Rattle.file_calls.specs.Pipes as pipes
 use Rattle.file_calls.specs.Retiming as retiming
+use Rattle.file_calls.specs.Sending as sending
 use Rattle.file_calls.specs.Status as status
 use Rattle.file_calls.specs.Transfers as transfers
 use Rattle.file_calls.specs.VectorFetch.{vector_need}
@@ -64,6 +67,7 @@ descriptor_service Fcntl abi args m k = taking_if (command_takes_memory (command
 descriptor_service Fcntl64 abi args m k = taking_if (command_takes_memory (command_64_of (word args 1))) (descriptors.fcntl64 abi args m k)
 
 unfoldable pub pipe_service : PipeOperation → AbiRules → Args → Memory → Kernel → Service Kernel
+pipe_service Ioctl abi args m k = spare (served (pipes.ioctl abi args) m k)
 pipe_service Pipe abi args m k = taking (served (pipes.pipe abi args) m k)
 pipe_service Pipe2 abi args m k = taking (served (pipes.pipe2 abi args) m k)
 
@@ -80,6 +84,10 @@ vector_service Preadv abi args m k = taking_if (moves_bytes (vectors.preadv abi 
 vector_service Pwritev abi args m k = taking (served (vectors.pwritev abi args) m k)
 vector_service Readv abi args m k = taking_if (moves_bytes (vectors.readv abi args m k).operation.0) (served (vectors.readv abi args) m k)
 vector_service Writev abi args m k = taking (served (vectors.writev abi args) m k)
+
+unfoldable pub sending_service : SendingOperation → AbiRules → Args → Memory → Kernel → Service Kernel
+sending_service Sendfile abi args m k = taking (served (sending.sendfile abi args) m k)
+sending_service Sendfile64 abi args m k = taking (served (sending.sendfile64 abi args) m k)
 
 unfoldable pub listing_service : ListingOperation → AbiRules → Args → Memory → Kernel → Service Kernel
 listing_service Getdents abi args m k = taking (listings.getdents false args m k)
@@ -109,6 +117,7 @@ file_service (Descriptors call) abi args m k = descriptor_service call abi args 
 file_service (Pipes call) abi args m k = pipe_service call abi args m k
 file_service (Transfers call) abi args m k = transfer_service call abi args m k
 file_service (Vectors call) abi args m k = vector_service call abi args m k
+file_service (Sending call) abi args m k = sending_service call abi args m k
 file_service (Listings call) abi args m k = listing_service call abi args m k
 file_service (Status call) abi args m k = status_service call abi args m k
 file_service (Retiming call) abi args m k = retiming_service call abi args m k
@@ -129,6 +138,7 @@ file_need (Descriptors call) args k = 0
 file_need (Pipes call) args k = 0
 file_need (Transfers call) args k = 0
 file_need (Vectors call) args k = vector_call_need call args k
+file_need (Sending call) args k = 0
 file_need (Listings call) args k = 0
 file_need (Status call) args k = 0
 file_need (Retiming call) args k = 0

@@ -4,16 +4,17 @@ ghost use Rattle.std.specs.Prelude.{◌≤◌};
 ghost use Rattle.layout_laws.specs.Abis.{rules};
 ghost use Rattle.scratch_region.specs.Needs.{IsEmpty, Takes};
 ghost use Rattle.served_calls.specs.Calls.{ServesAs};
-ghost use Rattle.file_calls.specs.Choice.{descriptor_service, file_need, file_service, length_service, listing_service, name_service, path_service, pipe_service, retiming_service, status_service, transfer_service, vector_call_need, vector_service};
+ghost use Rattle.file_calls.specs.Choice.{descriptor_service, file_need, file_service, length_service, listing_service, name_service, path_service, pipe_service, retiming_service, sending_service, status_service, transfer_service, vector_call_need, vector_service};
 
 use crate::{
-    descriptors, lengths, listings, names, paths, pipes, retiming, status, transfers, vectors,
+    descriptors, lengths, listings, names, paths, pipes, retiming, sending, status, transfers,
+    vectors,
 };
 use abi_registers::Args;
 use call_tables::{
     DescriptorOperation, FileOperation, LengthOperation, ListingOperation, NameOperation,
-    PathOperation, PipeOperation, RetimingOperation, StatusOperation, TransferOperation,
-    VectorOperation,
+    PathOperation, PipeOperation, RetimingOperation, SendingOperation, StatusOperation,
+    TransferOperation, VectorOperation,
 };
 use kernel_values::Answer;
 use layout_laws::Compat;
@@ -91,6 +92,7 @@ fn serve_pipe<A: Compat>(
     ensures { ServesAs result memory.new kernel.new (pipe_service operation (rules A.KIND A.ALIGN64) args.now memory.old kernel.old) }
 {
     match operation {
+        PipeOperation::Ioctl => pipes::ioctl::<A>(memory, kernel, args),
         PipeOperation::Pipe => pipes::pipe::<A>(alloc, memory, kernel, args),
         PipeOperation::Pipe2 => pipes::pipe2::<A>(alloc, memory, kernel, args),
     }
@@ -135,6 +137,22 @@ fn serve_vector<A: Compat>(
         VectorOperation::Pwritev => vectors::pwritev::<A>(alloc, memory, kernel, scratch, args),
         VectorOperation::Readv => vectors::readv::<A>(alloc, memory, kernel, scratch, args),
         VectorOperation::Writev => vectors::writev::<A>(alloc, memory, kernel, scratch, args),
+    }
+}
+
+#[tactic(auto, unfolding(crate::specs::Choice::sending_service))]
+fn serve_sending<A: Compat>(
+    alloc: Global,
+    memory: &mut UserMemory,
+    kernel: &mut Kernel,
+    operation: SendingOperation,
+    args: &Args,
+) -> Answer<u32>
+    ensures { ServesAs result memory.new kernel.new (sending_service operation (rules A.KIND A.ALIGN64) args.now memory.old kernel.old) }
+{
+    match operation {
+        SendingOperation::Sendfile => sending::sendfile::<A>(alloc, memory, kernel, args),
+        SendingOperation::Sendfile64 => sending::sendfile64::<A>(alloc, memory, kernel, args),
     }
 }
 
@@ -231,6 +249,7 @@ pub fn serve_file<A: Compat>(
         FileOperation::Vectors(call) => serve_vector::<A>(
             alloc, memory, kernel, scratch, call, args,
         ),
+        FileOperation::Sending(call) => serve_sending::<A>(alloc, memory, kernel, call, args),
         FileOperation::Listings(call) => serve_listing::<A>(alloc, memory, kernel, call, args),
         FileOperation::Status(call) => serve_status::<A>(memory, kernel, call, args),
         FileOperation::Retiming(call) => serve_retiming::<A>(memory, kernel, call, args),

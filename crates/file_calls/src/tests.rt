@@ -5,8 +5,8 @@ use crate::serve_file;
 use abi_registers::Args;
 use call_tables::{
     DescriptorOperation, FileOperation, LengthOperation, ListingOperation, NameOperation,
-    PathOperation, PipeOperation, RetimingOperation, StatusOperation, TransferOperation,
-    VectorOperation,
+    PathOperation, PipeOperation, RetimingOperation, SendingOperation, StatusOperation,
+    TransferOperation, VectorOperation,
 };
 use kernel_values::{Answer, KernelFault, Usage};
 use layout_laws::{ArmEabi, Compat, Ia32};
@@ -45,6 +45,8 @@ const ENOTDIR: i64 = -20;
 const EISDIR: i64 = -21;
 
 const EINVAL: i64 = -22;
+
+const ENOTTY: i64 = -25;
 
 const ERANGE: i64 = -34;
 
@@ -93,6 +95,12 @@ const WRITEV: FileOperation = FileOperation::Vectors(VectorOperation::Writev);
 const PREADV: FileOperation = FileOperation::Vectors(VectorOperation::Preadv);
 
 const PWRITEV: FileOperation = FileOperation::Vectors(VectorOperation::Pwritev);
+
+const IOCTL: FileOperation = FileOperation::Pipes(PipeOperation::Ioctl);
+
+const SENDFILE: FileOperation = FileOperation::Sending(SendingOperation::Sendfile);
+
+const SENDFILE64: FileOperation = FileOperation::Sending(SendingOperation::Sendfile64);
 
 const CLOSE: FileOperation = FileOperation::Descriptors(DescriptorOperation::Close);
 
@@ -157,15 +165,24 @@ fn mapped(alloc: Global) -> Option<UserMemory> {
     Some(memory)
 }
 
+// What is made is told by no clause, and a function that may end early has the state by reference: each end of one that owns the state
+// would be proved to let go of all its parts.
+
+fn file(alloc: Global, kernel: &mut Kernel, path: &[u8], inode: u64, size: u64) -> Option<()> {
+    kernel.image_file(alloc, path, inode, size).ok()
+}
+
+fn directory(alloc: Global, kernel: &mut Kernel, inode: u64) -> Option<()> {
+    kernel.image_directory(alloc, b"/d", inode).ok()
+}
+
 /// `/f` holds `hello`, `/d` is a directory, and `/big` has an `A` at 2^31 and ends behind it.
-fn tree(alloc: Global) -> Option<Kernel> {
-    let mut kernel = Kernel::new(alloc, &OWNER).ok()?;
-    kernel.image_file(alloc, b"/f", 7, 5).ok()?;
+fn plant(alloc: Global, kernel: &mut Kernel) -> Option<()> {
+    file(alloc, kernel, b"/f", 7, 5)?;
     kernel.image_bytes(alloc, b"/f", 0, b"hello").ok()?;
-    kernel.image_directory(alloc, b"/d", 8).ok()?;
-    kernel.image_file(alloc, b"/big", 9, 0x8000_0001).ok()?;
-    kernel.image_bytes(alloc, b"/big", 0x8000_0000, b"A").ok()?;
-    Some(kernel)
+    directory(alloc, kernel, 8)?;
+    file(alloc, kernel, b"/big", 9, 0x8000_0001)?;
+    kernel.image_bytes(alloc, b"/big", 0x8000_0000, b"A").ok()
 }
 
 fn start(alloc: Global) -> Option<World> {
@@ -173,21 +190,24 @@ fn start(alloc: Global) -> Option<World> {
     for (at, path) in &PATHS {
         memory.copy_out(*at, path).ok()?;
     }
-    let kernel = tree(alloc)?;
+    let mut kernel = Kernel::new(alloc, &OWNER).ok()?;
+    plant(alloc, &mut kernel)?;
     Some(World { memory, kernel })
 }
 
 /// `/d`, inode 5, has a file `a`, inode 7, and `b`, whose inode takes more than 32 bits.
 fn start_listing(alloc: Global) -> Option<World> {
-    let mut world = start(alloc)?;
-    world.kernel = Kernel::new(alloc, &OWNER).ok()?;
-    world.kernel.image_directory(alloc, b"/d", 5).ok()?;
-    world.kernel.image_file(alloc, b"/d/a", 7, 0).ok()?;
-    world
-        .kernel
-        .image_file(alloc, b"/d/b", 0x1_0000_0000, 0)
-        .ok()?;
-    Some(world)
+    let mut memory = mapped(alloc)?;
+    memory.copy_out(0x1010, b"/d").ok()?;
+    let mut kernel = Kernel::new(alloc, &OWNER).ok()?;
+    plant_listing(alloc, &mut kernel)?;
+    Some(World { memory, kernel })
+}
+
+fn plant_listing(alloc: Global, kernel: &mut Kernel) -> Option<()> {
+    directory(alloc, kernel, 5)?;
+    file(alloc, kernel, b"/d/a", 7, 0)?;
+    file(alloc, kernel, b"/d/b", 0x1_0000_0000, 0)
 }
 
 /// No byte of 4,096 from 0x1800 on is zero.
@@ -414,6 +434,30 @@ fn a_pipe_is_made_where_its_descriptors_are_stored(rt: HostRuntime) -> Result<()
     are_stored(&rt, &world, 0x2000, &[0, 0, 0, 0, 1, 0, 0, 0]);
     are_stored(&rt, &world, 0x2008, &[2, 0, 0, 0, 3, 0, 0, 0]);
     are_stored(&rt, &world, 0x2010, b"/f\0\0\0\0\0\0");
+    Ok(())
+}
+
+#[test]
+fn bytes_of_a_file_are_sent_and_counted(rt: HostRuntime) -> Result<(), Fail> {
+    let mut world = start(rt.alloc()).ok_or("memory")?;
+    let calls = [
+        (OPEN, [0x1000, 0, 0, 0], 0),
+        (PIPE, [0x2000, 0, 0, 0], 0),
+        (SENDFILE, [2, 0, 0x2010, 3], 3),
+        (SENDFILE, [2, 0, 0, 9], 5),
+        (SENDFILE, [2, 0, 0x3000, 1], EFAULT),
+        (SENDFILE64, [2, 0, 0x2020, 1], 1),
+        (SENDFILE, [1, 9, 0x9000, 1], EBADF),
+        (IOCTL, [1, 0x541b, 0x2018, 0], 0),
+        (IOCTL, [1, 0x5401, 0x9000, 0], ENOTTY),
+        (IOCTL, [0, 0x541b, 0x9000, 0], ENOTTY),
+        (IOCTL, [9, 0x541b, 0x9000, 0], EBADF),
+        (IOCTL, [2, 0x541b, 0x3000, 0], EFAULT),
+    ];
+    are_served::<Ia32>(&rt, rt.alloc(), &mut world, &calls);
+    are_stored(&rt, &world, 0x2010, &[3, 0, 0, 0, 0, 0, 0, 0]);
+    are_stored(&rt, &world, 0x2018, &[10, 0, 0, 0, 0, 0, 0, 0]);
+    are_stored(&rt, &world, 0x2020, &[1, 0, 0, 0, 0, 0, 0, 0]);
     Ok(())
 }
 

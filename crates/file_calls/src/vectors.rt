@@ -3,9 +3,12 @@
 
 ghost use Rattle.std.specs.Prelude.{◌≡◌, ◌≤◌, ◌<◌, ◌^◌, true, false, Ok};
 ghost use Rattle.open_files.specs.Transfers.{moves_bytes};
+ghost use Rattle.open_files.specs.declared.state.Place.TheVariants.{At};
+ghost use Rattle.abi_registers.specs.Values.{word};
 ghost use Rattle.layout_laws.specs.Abis.{rules};
 ghost use Rattle.scratch_region.specs.Needs.{IsEmpty, Takes, TookWithin};
 ghost use Rattle.served_calls.specs.Calls.{Serves, ServesBy, served};
+ghost use Rattle.file_calls.specs.Transfers.{halves};
 ghost use Rattle.file_calls.specs.VectorFetch.{vector_need};
 ghost use Rattle.file_calls.specs.Vectors.{preadv, pwritev, read_vector, readv, write_vector, writev};
 
@@ -84,6 +87,53 @@ fn write_pieces<A: Compat>(
     Ok(written as u32)
 }
 
+/// Reads into the pieces of a vector, and gives its entries back.
+fn read_vector<A: Compat>(
+    alloc: Global,
+    memory: &mut UserMemory,
+    kernel: &mut Kernel,
+    scratch: &mut Scratch,
+    args: &Args,
+    place: Place,
+) -> Answer<u32>
+    requires empty { IsEmpty scratch.old }
+    requires room { 16384 ≤ scratch.old.capacity }
+    ensures serves { ServesBy (moves_bytes (read_vector place (rules A.KIND A.ALIGN64) args.now memory.old kernel.old).operation.0) result memory.new kernel.new (served (read_vector place (rules A.KIND A.ALIGN64) args.now) memory.old kernel.old) }
+    ensures region { Takes (vector_need true args.now kernel.old) result scratch.old scratch.new }
+{
+    let start = scratch.mark();
+    let answer = read_pieces::<A>(alloc, memory, kernel, scratch, args, place);
+    scratch.release_to(start);
+    answer
+}
+
+/// Writes from the pieces of a vector, and gives its entries back.
+fn write_vector<A: Compat>(
+    alloc: Global,
+    memory: &mut UserMemory,
+    kernel: &mut Kernel,
+    scratch: &mut Scratch,
+    args: &Args,
+    place: Place,
+) -> Answer<u32>
+    requires empty { IsEmpty scratch.old }
+    requires room { 16384 ≤ scratch.old.capacity }
+    ensures serves { Serves result memory.new kernel.new (served (write_vector place (rules A.KIND A.ALIGN64) args.now) memory.old kernel.old) }
+    ensures region { Takes (vector_need false args.now kernel.old) result scratch.old scratch.new }
+{
+    let start = scratch.mark();
+    let answer = write_pieces::<A>(alloc, memory, kernel, scratch, args, place);
+    scratch.release_to(start);
+    answer
+}
+
+/// Where the calls with an offset begin: its low word is argument 3, and its high word argument 4.
+fn offset_place(args: &Args) -> Place
+    ensures { result ≡ At (halves (word args.now 4) (word args.now 3)) }
+{
+    Place::At(halves(args.word(4), args.word(3)))
+}
+
 /// readv(descriptor, vector, count)
 ///
 /// EBADF; EINVAL for more than 1,024 entries, EFAULT where their array can't be read, EINVAL for a piece of 2^31 bytes or more; the refusals
@@ -101,10 +151,7 @@ pub fn readv<A: Compat>(
     ensures serves { ServesBy (moves_bytes (readv (rules A.KIND A.ALIGN64) args.now memory.old kernel.old).operation.0) result memory.new kernel.new (served (readv (rules A.KIND A.ALIGN64) args.now) memory.old kernel.old) }
     ensures region { Takes (vector_need true args.now kernel.old) result scratch.old scratch.new }
 {
-    let start = scratch.mark();
-    let answer = read_pieces::<A>(alloc, memory, kernel, scratch, args, Place::Current);
-    scratch.release_to(start);
-    answer
+    read_vector::<A>(alloc, memory, kernel, scratch, args, Place::Current)
 }
 
 /// preadv(descriptor, vector, count, low, high)
@@ -123,11 +170,7 @@ pub fn preadv<A: Compat>(
     ensures serves { ServesBy (moves_bytes (preadv (rules A.KIND A.ALIGN64) args.now memory.old kernel.old).operation.0) result memory.new kernel.new (served (preadv (rules A.KIND A.ALIGN64) args.now) memory.old kernel.old) }
     ensures region { Takes (vector_need true args.now kernel.old) result scratch.old scratch.new }
 {
-    let start = scratch.mark();
-    let place = Place::At(halves(args.word(4), args.word(3)));
-    let answer = read_pieces::<A>(alloc, memory, kernel, scratch, args, place);
-    scratch.release_to(start);
-    answer
+    read_vector::<A>(alloc, memory, kernel, scratch, args, offset_place(args))
 }
 
 /// writev(descriptor, vector, count)
@@ -147,10 +190,7 @@ pub fn writev<A: Compat>(
     ensures serves { Serves result memory.new kernel.new (served (writev (rules A.KIND A.ALIGN64) args.now) memory.old kernel.old) }
     ensures region { Takes (vector_need false args.now kernel.old) result scratch.old scratch.new }
 {
-    let start = scratch.mark();
-    let answer = write_pieces::<A>(alloc, memory, kernel, scratch, args, Place::Current);
-    scratch.release_to(start);
-    answer
+    write_vector::<A>(alloc, memory, kernel, scratch, args, Place::Current)
 }
 
 /// pwritev(descriptor, vector, count, low, high)
@@ -169,9 +209,5 @@ pub fn pwritev<A: Compat>(
     ensures serves { Serves result memory.new kernel.new (served (pwritev (rules A.KIND A.ALIGN64) args.now) memory.old kernel.old) }
     ensures region { Takes (vector_need false args.now kernel.old) result scratch.old scratch.new }
 {
-    let start = scratch.mark();
-    let place = Place::At(halves(args.word(4), args.word(3)));
-    let answer = write_pieces::<A>(alloc, memory, kernel, scratch, args, place);
-    scratch.release_to(start);
-    answer
+    write_vector::<A>(alloc, memory, kernel, scratch, args, offset_place(args))
 }

@@ -1,6 +1,6 @@
 use crate::{
-    DescriptorPair, DirentFault, IoVec32, IoVec64, Lock32, Lock64, Position64, Stat32, Stat64,
-    put_dirent,
+    ByteCount, DescriptorPair, DirentFault, IoVec32, IoVec64, Lock32, Lock64, PollAnswer,
+    PollEntry, Position32, Position64, Stat32, Stat64, put_dirent,
 };
 use kernel_values::{DirEntry, Lock, NameText, Stat, TimeSpec};
 use layout_laws::{Abi, ArmEabi, Ia32, Layout, Native64, StoreFault, fetch, store};
@@ -344,5 +344,53 @@ fn entries_of_vectors(rt: HostRuntime) -> Result<(), Fail> {
         ]
     );
     assert_eq!(rt; wide_back, wide);
+    Ok(())
+}
+
+#[test]
+fn narrow_positions(rt: HostRuntime) -> Result<(), Fail> {
+    let mut bytes = [9; 4];
+    let position = Position32 { position: -2 };
+    let read = stored::<Ia32, Position32, HostRuntime>(&rt, &position, &mut bytes)?;
+    assert_eq!(rt; bytes, [0xfe, 0xff, 0xff, 0xff]);
+    assert_eq!(rt; read, position);
+    let position = Position32 {
+        position: 0x8000_0000,
+    };
+    let told = refused::<ArmEabi, Position32, HostRuntime>(&rt, &position)?;
+    assert_eq!(rt; told, (true, 0xff));
+    Ok(())
+}
+
+#[test]
+fn entries_of_poll(rt: HostRuntime) -> Result<(), Fail> {
+    let mut memory = page(&rt)?;
+    memory.copy_out(AT, &[0xff, 0xff, 0xff, 0xff, 5, 0x80, 7, 7])?;
+    let entry = fetch::<Ia32, PollEntry>(&memory, AT)?;
+    assert_eq!(rt;
+        entry,
+        PollEntry {
+            fd: -1,
+            events: 0x8005
+        }
+    );
+    let answer = PollAnswer { revents: 0x20 };
+    store::<ArmEabi, PollAnswer>(&mut memory, 0x1006, &answer)?;
+    let mut bytes = [0; 10];
+    memory.copy_in(AT, &mut bytes)?;
+    assert_eq!(rt;
+        bytes,
+        [0xff, 0xff, 0xff, 0xff, 5, 0x80, 0x20, 0, 0xff, 0xff]
+    );
+    Ok(())
+}
+
+#[test]
+fn counts_of_bytes(rt: HostRuntime) -> Result<(), Fail> {
+    let mut bytes = [9; 4];
+    let count = ByteCount { count: 0x1_0203 };
+    let read = stored::<Ia32, ByteCount, HostRuntime>(&rt, &count, &mut bytes)?;
+    assert_eq!(rt; bytes, [3, 2, 1, 0]);
+    assert_eq!(rt; read, count);
     Ok(())
 }

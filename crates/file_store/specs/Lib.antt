@@ -10,6 +10,7 @@ pub mod Removing
 pub mod Renaming
 pub mod Listing
 pub mod Transfers
+pub mod Sending
 pub mod Piping
 pub mod Lengths
 pub mod Retiming

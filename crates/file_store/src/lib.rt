@@ -18,6 +18,7 @@ mod removing;
 mod renaming;
 mod retiming;
 mod seeking;
+mod sending;
 mod state;
 mod status;
 mod transfers;

@@ -1,6 +1,6 @@
 //! Reads and writes of files and pipes.
 
-ghost use Rattle.std.specs.Prelude.{◌≡◌, ◌-◌, ◌+◌, ◌<◌, ◌≤◌, ◌^◌, true, IsSome, IfOk, OnErr, length, take, drop, ◌⊎◌};
+ghost use Rattle.std.specs.Prelude.{◌≡◌, ◌-◌, ◌+◌, ◌<◌, ◌≤◌, ◌^◌, true, IsSome, IfOk, OnErr, length, max, take, drop, ◌⊎◌};
 ghost use Rattle.kernel_values.specs.Bounds.{most_file_bytes};
 ghost use Rattle.kernel_values.specs.Outcome.{Gives, GivesAlways, OnOutOfMemory, Tells, settled};
 ghost use Rattle.number_maps.specs.NumberMap.{at};
@@ -31,9 +31,11 @@ fn size_limit(file: &OpenFile) -> u64
 }
 
 impl Files {
-    fn bytes_left(&self, file: &OpenFile, start: u64, wanted: u64) -> u64
+    pub(crate) fn bytes_left(&self, file: &OpenFile, start: u64, wanted: u64) -> u64
         ensures count { result ≡ bytes_left self.now file.now start wanted }
         ensures end { start + result < 2 ^ 64 }
+        ensures within { result ≡ 0 ⊎ (start + result ≤ size_of self.now.tree file.now.inode) }
+        ensures limit { start + result ≤ max start most_file_bytes }
         ensures most { result ≤ wanted }
     {
         wanted.min(self.tree.size_of(file.inode).saturating_sub(start))
@@ -50,7 +52,7 @@ impl Files {
     }
 
     /// The bytes of a file from a place on, none of an inode that has no content. Only bytes take memory.
-    fn bytes_at(
+    pub(crate) fn bytes_at(
         &self,
         alloc: Global,
         inode: u64,

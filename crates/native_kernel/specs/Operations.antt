@@ -18,6 +18,8 @@ use Rattle.file_tree.specs.Working as working_text
 use Rattle.open_files.specs.Descriptors as positions
 use Rattle.open_files.specs.Flags as flags_of
 use Rattle.open_files.specs.Numbers as numbers
+use Rattle.open_files.specs.Readiness as readiness
+use Rattle.open_files.specs.declared.readiness.Ready.{Ready}
 use Rattle.file_store.specs.Closing as closing
 use Rattle.file_store.specs.Descriptors as descriptors
 use Rattle.file_store.specs.Image as image
@@ -32,6 +34,7 @@ use Rattle.file_store.specs.Removing as removing
 use Rattle.file_store.specs.Renaming as renaming
 use Rattle.file_store.specs.Retiming as retiming
 use Rattle.file_store.specs.Seeking as seeking
+use Rattle.file_store.specs.Sending as sending
 use Rattle.file_store.specs.State.{on_open_files}
 use Rattle.file_store.specs.Status as status_of
 use Rattle.file_store.specs.Transfers as transfers
@@ -106,6 +109,18 @@ write k fd wanted piece place = on_files k (transfers.write k.files (time_of k.c
 
 unfoldable pub seek : Kernel → ℤ → ℤ → ℕ → Result ℤ Errno × Kernel
 seek k fd offset whence = on_files k (seeking.seek k.files fd offset whence)
+
+-- bytes of a file sent to what another descriptor has open
+unfoldable pub send_file : Kernel → ℤ → ℤ → Place → ℕ → Bool → Result ℕ Errno × Kernel
+send_file k target source place count narrow = on_files k (sending.send_file k.files (time_of k.clocks.real) target source place count narrow)
+
+-- what a descriptor is ready for
+unfoldable pub ready : Kernel → ℤ → Result Ready Errno
+ready k fd = readiness.ready k.files.open_files fd
+
+-- how many bytes wait in a pipe
+unfoldable pub waiting_bytes : Kernel → ℤ → Result ℕ Errno
+waiting_bytes k fd = readiness.waiting_bytes k.files.open_files fd
 
 unfoldable pub duplicate : Kernel → ℤ → ℤ → Bool → Result ℕ Errno × Kernel
 duplicate k fd least cloexec = on_files k (on_open_files k.files (numbers.duplicate k.files.open_files (most_descriptors k) fd least cloexec))

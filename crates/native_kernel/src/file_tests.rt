@@ -26,11 +26,18 @@ struct Desk {
     alloc: Global,
 }
 
+/// The same kernel. No clause says so: what comes next is then proved without what went before.
+fn unseen(kernel: Kernel) -> Kernel {
+    kernel
+}
+
 /// The image has directory /d, inode 6, and file /f, inode 7, with bytes abc00.
 fn image(alloc: Global) -> Answer<Desk> {
     let mut kernel = Kernel::new(alloc, &OWNER)?;
     kernel.image_directory(alloc, b"/d", 6)?;
+    kernel = unseen(kernel);
     kernel.image_file(alloc, b"/f", 7, 5)?;
+    kernel = unseen(kernel);
     kernel.image_bytes(alloc, b"/f", 0, b"abc")?;
     Ok(Desk { kernel, alloc })
 }
@@ -197,6 +204,26 @@ impl Desk {
         }
     }
 
+    /// How many bytes of a file are sent, with a narrow offset.
+    fn send(&mut self, target: i64, source: i64, place: Place, count: u64) -> i64 {
+        told(
+            self.kernel
+                .send_file(self.alloc, target, source, place, count, true),
+        )
+    }
+
+    fn waiting(&self, fd: i64) -> i64 {
+        told_errno(self.kernel.waiting_bytes(fd))
+    }
+
+    /// Whether a descriptor is ready for input, output, an error and a hang-up.
+    fn ready(&self, fd: i64) -> [bool; 4] {
+        match self.kernel.ready(fd) {
+            Ok(ready) => [ready.input, ready.output, ready.error, ready.hang_up],
+            Err(_) => [false; 4],
+        }
+    }
+
     fn limit_stack(&mut self) -> i64 {
         done(self.kernel.set_limit(3, &Limit { soft: 1, hard: 2 }))
     }
@@ -267,6 +294,25 @@ fn a_pipe_is_written_and_read(rt: HostRuntime) -> Result<(), Fail> {
     assert_eq!(rt; desk.pipe(0), [203, 203]);
     assert_eq!(rt; desk.close(0), 0);
     assert_eq!(rt; desk.write(1, b"c"), -32);
+    Ok(())
+}
+
+#[test]
+fn bytes_of_a_file_are_sent_to_a_pipe(rt: HostRuntime) -> Result<(), Fail> {
+    let mut desk = image(rt.alloc())?;
+    assert_eq!(rt; desk.pipe(0), [1, 1]);
+    assert_eq!(rt; desk.open(b"/f", 0), 2);
+    assert_eq!(rt; desk.ready(0), [false, false, false, false]);
+    assert_eq!(rt; desk.send(1, 2, Place::Current, 2), 2);
+    assert_eq!(rt; desk.send(1, 2, Place::At(1), 1), 1);
+    assert_eq!(rt; desk.send(1, 2, Place::At(0x7fff_ffff), 1), -75);
+    assert_eq!(rt; desk.waiting(1), 3);
+    assert_eq!(rt; desk.waiting(2), -25);
+    assert!(rt; desk.reads(0, 9, b"abb"));
+    assert_eq!(rt; desk.seek(2, 0, 1), 2);
+    assert_eq!(rt; desk.close(0), 0);
+    assert_eq!(rt; desk.ready(1), [false, true, true, false]);
+    assert_eq!(rt; desk.ready(2), [true, true, false, false]);
     Ok(())
 }
 

@@ -8,4 +8,6 @@ mod lengths;
 mod limits;
 mod locks;
 mod pipes;
+mod readiness;
+mod sending;
 mod status;

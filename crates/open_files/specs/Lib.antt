@@ -7,3 +7,4 @@ pub mod Flags
 pub mod Transfers
 pub mod Piping
 pub mod Items
+pub mod Readiness

@@ -9,6 +9,7 @@ mod kinds;
 mod made;
 mod numbers;
 mod piping;
+mod readiness;
 mod state;
 mod transfers;
 
@@ -17,6 +18,7 @@ pub use flags::CLOSE_ON_EXEC;
 pub use items::OpenCursor;
 pub use kinds::{is_of_directory, is_of_file, is_of_pipe, is_of_socket, lacks_position};
 pub use made::Made;
+pub use readiness::Ready;
 pub use state::{Descriptor, OpenFile, OpenFiles, Place};
 pub use transfers::{place_of, socket_refusal};
 

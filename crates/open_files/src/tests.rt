@@ -133,6 +133,23 @@ fn a_pipe_ends_with_its_ends(rt: HostRuntime) -> Result<(), Fail> {
     Ok(())
 }
 
+#[test]
+fn ends_of_pipes_are_ready(rt: HostRuntime) -> Result<(), Fail> {
+    let mut open_files = opened(rt.alloc())?;
+    let ready = open_files.ready(0)?;
+    assert!(rt; ready.input && ready.output && !ready.error && !ready.hang_up);
+    assert!(rt; !open_files.ready(1)?.input);
+    assert!(rt; open_files.ready(2)?.output);
+    assert!(rt; open_files.ready(3) == Err(Errno::BadDescriptor));
+    assert!(rt; open_files.write_pipe(9, 3, b"abc", Place::Current) == Ok(3));
+    let ready = open_files.ready(1)?;
+    assert!(rt; ready.input && !ready.hang_up);
+    assert!(rt; open_files.waiting_bytes(2) == Ok(3));
+    assert!(rt; open_files.waiting_bytes(0) == Err(Errno::NotTerminal));
+    assert!(rt; open_files.waiting_bytes(3) == Err(Errno::BadDescriptor));
+    Ok(())
+}
+
 /// A letter for the kind of item, and its number.
 fn label(item: &StateItem) -> (u8, u64) {
     match item {

@@ -74,6 +74,15 @@ impl Desk {
         }
     }
 
+    // Whether two writes and a read of a size move this many bytes, and a read of the rest leaves what waited before.
+    fn moves(&mut self, size: usize, written: [i64; 2]) -> bool {
+        let before = self.pipes.waiting(INODE);
+        let told = [self.writes(size), self.writes(size)];
+        let read = self.reads(size as u64, size as u64, true);
+        let rest = self.pipes.waiting(INODE).saturating_sub(before);
+        told == written && read == size as i64 && (rest == 0 || self.reads(rest, rest, true) > 0)
+    }
+
     fn gives(&mut self, wanted: u64, expected: &[u8]) -> bool {
         match self.read(wanted, wanted, true) {
             Ok(bytes) => bytes.as_slice() == expected,
@@ -98,6 +107,7 @@ fn few_bytes_are_written_whole(rt: HostRuntime) -> Result<(), Fail> {
     let mut desk = filled(rt.alloc(), 61441).ok_or("memory")?;
     assert!(rt; desk.writes(4096) == -11);
     assert!(rt; desk.pipes.waiting(INODE) == 61441);
+    assert!(rt; desk.pipes.free_room(INODE) == 4095);
     assert!(rt; desk.writes(4095) == 4095);
     assert!(rt; desk.pipes.waiting(INODE) == 65536);
     Ok(())
@@ -109,6 +119,24 @@ fn many_bytes_are_written_in_part(rt: HostRuntime) -> Result<(), Fail> {
     assert!(rt; desk.writes(4097) == 1);
     assert!(rt; desk.writes(4097) == -11);
     assert!(rt; desk.reads(65537, 65537, true) == 65536);
+    Ok(())
+}
+
+// 5,536 bytes are free, so that the first write always fits. The second may not: up to 4,096 bytes go in whole or not at all.
+#[test]
+fn pieces_of_each_size_go_in_and_come_out(rt: HostRuntime) -> Result<(), Fail> {
+    let mut desk = filled(rt.alloc(), 60_000).ok_or("memory")?;
+    for size in 1..=5_000_i64 {
+        let second = if size <= 2_768 {
+            size
+        } else if size <= 4_096 {
+            -11
+        } else {
+            5_536 - size
+        };
+        assert!(rt; desk.moves(size as usize, [size, second]), "{size}");
+        assert!(rt; desk.pipes.waiting(INODE) == 60_000, "{size}");
+    }
     Ok(())
 }
 

@@ -41,8 +41,8 @@ impl Pipes {
         Ok(wanted.min(waiting).min(room))
     }
 
-    /// How many bytes a pipe has room for.
-    fn free_room(&self, inode: u64) -> u64
+    /// How many more bytes a pipe has room for.
+    pub fn free_room(&self, inode: u64) -> u64
         ensures { result ≡ free_room (waiting self.now inode) }
     {
         PIPE_SIZE - self.waiting(inode)

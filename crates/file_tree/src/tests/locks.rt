@@ -22,15 +22,20 @@ fn locks_are_found_and_set(rt: HostRuntime) -> Result<(), Fail> {
     assert!(rt; tree.seek_base(7, 3, 2) == Ok(5));
     assert!(rt; tree.seek_base(7, 3, 3) == Err(Errno::InvalidArgument));
     let writers = tree.set_lock(alloc, 7, 0, flags, &two_bytes(1));
+    tree = unseen(tree);
     assert!(rt; is_refused(writers, Errno::BadDescriptor));
     tree.set_lock(alloc, 7, 0, flags, &two_bytes(0))?;
+    tree = unseen(tree);
     tree.image_lock(b"/f", true, 2, 0, 33)?;
+    tree = unseen(tree);
     let in_the_way = tree.set_lock(alloc, 7, 0, flags, &two_bytes(0));
+    tree = unseen(tree);
     assert!(rt; is_refused(in_the_way, Errno::TryAgain));
     let found = tree.find_lock(7, 0, &two_bytes(0))?;
     assert!(rt; found.pid == 33);
     assert!(rt; tree.find_lock(7, 0, &two_bytes(2)) == Err(Errno::InvalidArgument));
     tree.drop_locks_on(7);
+    tree = unseen(tree);
     assert!(rt; tree.own_locks.get(7).is_none());
     Ok(())
 }
@@ -52,8 +57,10 @@ fn items_come_in_order(rt: HostRuntime) -> Result<(), Fail> {
     let alloc = rt.alloc();
     let mut tree = image(alloc)?;
     tree.set_working(6);
+    tree = unseen(tree);
     let flags = OpenFlags::from_word(AbiKind::Ia32, 0);
     tree.set_lock(alloc, 7, 0, flags, &two_bytes(0))?;
+    tree = unseen(tree);
     let expected = [
         (b'w', 6, 0),
         (b'n', 2, 0),

@@ -13,7 +13,7 @@ use std::alloc::Global;
 impl Kernel {
     /// The soft limit of descriptors.
     #[tactic(auto, unfolding(crate::specs::Operations::most_descriptors))]
-    pub(crate) fn most_descriptors(&self) -> u32
+    pub fn most_descriptors(&self) -> u32
         ensures { result ≡ most_descriptors self.now }
     {
         self.limits.most_descriptors()

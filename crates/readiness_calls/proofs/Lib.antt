@@ -1,0 +1,3 @@
+pub mod LaterBytes
+pub mod EntryTurns
+pub mod SetBytes
