@@ -75,12 +75,12 @@ impl Desk {
     }
 
     // Whether two writes and a read of a size move this many bytes, and a read of the rest leaves what waited before.
-    fn moves(&mut self, size: usize, written: [i64; 2]) -> bool {
+    fn moves(&mut self, size: u16, written: [i64; 2]) -> bool {
         let before = self.pipes.waiting(INODE);
-        let told = [self.writes(size), self.writes(size)];
-        let read = self.reads(size as u64, size as u64, true);
+        let told = [self.writes(size.into()), self.writes(size.into())];
+        let read = self.reads(size.into(), size.into(), true);
         let rest = self.pipes.waiting(INODE).saturating_sub(before);
-        told == written && read == size as i64 && (rest == 0 || self.reads(rest, rest, true) > 0)
+        told == written && read == i64::from(size) && (rest == 0 || self.reads(rest, rest, true) > 0)
     }
 
     fn gives(&mut self, wanted: u64, expected: &[u8]) -> bool {
@@ -126,15 +126,16 @@ fn many_bytes_are_written_in_part(rt: HostRuntime) -> Result<(), Fail> {
 #[test]
 fn pieces_of_each_size_go_in_and_come_out(rt: HostRuntime) -> Result<(), Fail> {
     let mut desk = filled(rt.alloc(), 60_000).ok_or("memory")?;
-    for size in 1..=5_000_i64 {
+    for size in 1..=5_000_u16 {
+        let first = i64::from(size);
         let second = if size <= 2_768 {
-            size
+            first
         } else if size <= 4_096 {
             -11
         } else {
-            5_536 - size
+            5_536 - first
         };
-        assert!(rt; desk.moves(size as usize, [size, second]), "{size}");
+        assert!(rt; desk.moves(size, [first, second]), "{size}");
         assert!(rt; desk.pipes.waiting(INODE) == 60_000, "{size}");
     }
     Ok(())

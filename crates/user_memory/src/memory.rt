@@ -1,7 +1,7 @@
 //! User memory and its calls.
 
 ghost use Rattle.std.specs.Prelude.{◌≡◌, ℕ, ◌+◌, ◌*◌, ◌^◌, ◌<◌, ◌≤◌, ◌↔◌, ◌&&◌, nat_le, [], ◌∷◌, length, take, drop, true, false, IfOk, IfErr, OnOk, OnErr, IfSome, MatchOption, is_ok, Ok, Err};
-ghost use Rattle.user_memory.specs.Pages.{page_at, is_page, with_page, marked};
+ghost use Rattle.user_memory.specs.Pages.{IsWellFormed, page_at, is_page, with_page, marked};
 ghost use Rattle.user_memory.specs.Memory.{is_readable, is_writable, all_pass, bytes_at, with_bytes};
 ghost use Rattle.user_memory.specs.Changes.{changes};
 ghost use Rattle.user_memory.specs.Prefixes.{readable_prefix, writable_prefix, text_at};
@@ -109,6 +109,14 @@ impl UserMemory {
         }
         self.past = end_after_insertion(self.past, place);
         Ok(())
+    }
+
+    /// How many pages are mapped: at most 16,384, with ascending numbers below 2^20, each of 4,096 bytes.
+    pub fn mapped_pages(&self) -> usize
+        ensures count { result ≡ length self.now }
+        ensures formed { IsWellFormed self.now }
+    {
+        self.pages.len()
     }
 
     /// Copies the bytes from an address on into all of `into`, where each may be read.

@@ -18,6 +18,7 @@ fn change(at: u32, length: u32) -> Option<Change> {
 #[test]
 fn rights_go_by_page(rt: HostRuntime) -> Result<(), Fail> {
     let mut memory = mapped(&rt).ok_or("memory")?;
+    assert_eq!(rt; memory.mapped_pages(), 4);
     let mut into = [1u8; 4];
     assert_eq!(rt; memory.copy_in(0x3ffc, &mut into), Ok(()));
     assert_eq!(rt; into, [0, 0, 0, 0]);
