@@ -4,7 +4,7 @@ use Rattle.std.specs.Prelude.{ℕ, List, [], ◌∷◌, ◌++◌, codes}
 use Rattle.abi_registers.specs.declared.arguments.Form.{Form}
 use Rattle.abi_registers.specs.declared.arguments.Form.TheVariants.{Word, Signed, Pair}
 use Rattle.call_tables.specs.declared.operation.Operation.{Operation}
-use Rattle.call_tables.specs.declared.operation.Operation.TheVariants.{Files, Readiness, Times, Limits, Identity}
+use Rattle.call_tables.specs.declared.operation.Operation.TheVariants.{Files, Readiness, Times, Limits, Identity, Signals, Returns}
 use Rattle.call_tables.specs.declared.operation.FileOperation.TheVariants.{Paths, Names, Descriptors, Pipes, Transfers, Vectors, Sending, Listings, Status, Retiming, Lengths}
 use Rattle.call_tables.specs.declared.operation.PathOperation.TheVariants as path
 use Rattle.call_tables.specs.declared.operation.NameOperation.TheVariants as name
@@ -21,6 +21,8 @@ use Rattle.call_tables.specs.declared.operation.ReadinessOperation.TheVariants a
 use Rattle.call_tables.specs.declared.operation.TimeOperation.TheVariants as time
 use Rattle.call_tables.specs.declared.operation.LimitOperation.TheVariants as limit
 use Rattle.call_tables.specs.declared.operation.IdentityOperation.TheVariants as identity
+use Rattle.call_tables.specs.declared.operation.SignalOperation.TheVariants as signals
+use Rattle.call_tables.specs.declared.operation.ReturnOperation.TheVariants as returns
 use Rattle.call_tables.specs.declared.table.Numbers.{Numbers}
 use Rattle.call_tables.specs.declared.table.Numbers.TheVariants.{Both, By}
 
@@ -156,6 +158,26 @@ identity_calls =
     line (Identity identity.Getuid32) (codes "getuid32") (Both 199) [] ∷  -- getuid32()
     []
 
+abbrev pub signal_calls : List Line
+signal_calls =
+    line (Signals signals.Getitimer) (codes "getitimer") (Both 105) (Signed ∷ Word ∷ []) ∷  -- getitimer(which, value)
+    line (Signals signals.Kill) (codes "kill") (Both 37) (Signed ∷ Signed ∷ []) ∷  -- kill(pid, sig)
+    line (Signals signals.RtSigaction) (codes "rt_sigaction") (Both 174) (Signed ∷ Word ∷ Word ∷ Word ∷ []) ∷  -- rt_sigaction(sig, act, oact, sigsetsize)
+    line (Signals signals.RtSigpending) (codes "rt_sigpending") (Both 176) (Word ∷ Word ∷ []) ∷  -- rt_sigpending(set, sigsetsize)
+    line (Signals signals.RtSigprocmask) (codes "rt_sigprocmask") (Both 175) (Signed ∷ Word ∷ Word ∷ Word ∷ []) ∷  -- rt_sigprocmask(how, set, oset, sigsetsize)
+    line (Signals signals.RtSigqueueinfo) (codes "rt_sigqueueinfo") (Both 178) (Signed ∷ Signed ∷ Word ∷ []) ∷  -- rt_sigqueueinfo(pid, sig, uinfo)
+    line (Signals signals.Setitimer) (codes "setitimer") (Both 104) (Signed ∷ Word ∷ Word ∷ []) ∷  -- setitimer(which, in, out)
+    line (Signals signals.Sigaction) (codes "sigaction") (Both 67) (Signed ∷ Word ∷ Word ∷ []) ∷  -- sigaction(sig, act, oact)
+    line (Signals signals.Sigaltstack) (codes "sigaltstack") (Both 186) (Word ∷ Word ∷ []) ∷  -- sigaltstack(uss, uoss)
+    line (Signals signals.Sigprocmask) (codes "sigprocmask") (Both 126) (Signed ∷ Word ∷ Word ∷ []) ∷  -- sigprocmask(how, nset, oset)
+    []
+
+abbrev pub return_calls : List Line
+return_calls =
+    line (Returns returns.RtSigreturn) (codes "rt_sigreturn") (Both 173) [] ∷  -- rt_sigreturn()
+    line (Returns returns.Sigreturn) (codes "sigreturn") (Both 119) [] ∷  -- sigreturn()
+    []
+
 -- the calls on files
 unfoldable pub file_calls : List Line
 file_calls =
@@ -163,7 +185,7 @@ file_calls =
 
 -- all other calls
 unfoldable pub other_calls : List Line
-other_calls = readiness_calls ++ time_calls ++ limit_calls ++ identity_calls
+other_calls = readiness_calls ++ time_calls ++ limit_calls ++ identity_calls ++ signal_calls ++ return_calls
 
 abbrev pub calls : List Line
 calls = file_calls ++ other_calls

@@ -9,6 +9,8 @@ pub enum Operation {
     Times(TimeOperation),
     Limits(LimitOperation),
     Identity(IdentityOperation),
+    Signals(SignalOperation),
+    Returns(ReturnOperation),
 }
 
 /// A call on files.
@@ -161,4 +163,26 @@ pub enum IdentityOperation {
     Getpid,
     Getrusage,
     Getuid32,
+}
+
+/// The calls on signals and on the interval timer.
+#[derive(Clone, Copy, Debug, PartialEq, Eq)]
+pub enum SignalOperation {
+    Getitimer,
+    Kill,
+    RtSigaction,
+    RtSigpending,
+    RtSigprocmask,
+    RtSigqueueinfo,
+    Setitimer,
+    Sigaction,
+    Sigaltstack,
+    Sigprocmask,
+}
+
+/// The returns from handlers of signals.
+#[derive(Clone, Copy, Debug, PartialEq, Eq)]
+pub enum ReturnOperation {
+    RtSigreturn,
+    Sigreturn,
 }

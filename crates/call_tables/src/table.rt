@@ -22,7 +22,9 @@ use crate::operation::PathOperation::*;
 use crate::operation::PipeOperation::*;
 use crate::operation::ReadinessOperation::*;
 use crate::operation::RetimingOperation::*;
+use crate::operation::ReturnOperation::*;
 use crate::operation::SendingOperation::*;
+use crate::operation::SignalOperation::*;
 use crate::operation::StatusOperation::*;
 use crate::operation::TimeOperation::*;
 use crate::operation::TransferOperation::*;
@@ -75,7 +77,7 @@ const FILE_TABLES: &[&[Entry]] = &[
     LENGTHS,
 ];
 
-const OTHER_TABLES: &[&[Entry]] = &[READINESS, TIMES, LIMITS, IDENTITY];
+const OTHER_TABLES: &[&[Entry]] = &[READINESS, TIMES, LIMITS, IDENTITY, SIGNALS, RETURNS];
 
 /// The tables of the calls on files.
 #[tactic(auto, unfolding(crate::specs::Calls::file_calls))]
@@ -214,4 +216,24 @@ const IDENTITY: &[Entry] = &[
     Entry(Identity(Getpid), "getpid", Both(20), 0, [W, W, W, W, W, W]),
     Entry(Identity(Getrusage), "getrusage", Both(77), 2, [S, W, W, W, W, W]),
     Entry(Identity(Getuid32), "getuid32", Both(199), 0, [W, W, W, W, W, W]),
+];
+
+#[rattlefmt::skip]
+const SIGNALS: &[Entry] = &[
+    Entry(Signals(Getitimer), "getitimer", Both(105), 2, [S, W, W, W, W, W]),
+    Entry(Signals(Kill), "kill", Both(37), 2, [S, S, W, W, W, W]),
+    Entry(Signals(RtSigaction), "rt_sigaction", Both(174), 4, [S, W, W, W, W, W]),
+    Entry(Signals(RtSigpending), "rt_sigpending", Both(176), 2, [W, W, W, W, W, W]),
+    Entry(Signals(RtSigprocmask), "rt_sigprocmask", Both(175), 4, [S, W, W, W, W, W]),
+    Entry(Signals(RtSigqueueinfo), "rt_sigqueueinfo", Both(178), 3, [S, S, W, W, W, W]),
+    Entry(Signals(Setitimer), "setitimer", Both(104), 3, [S, W, W, W, W, W]),
+    Entry(Signals(Sigaction), "sigaction", Both(67), 3, [S, W, W, W, W, W]),
+    Entry(Signals(Sigaltstack), "sigaltstack", Both(186), 2, [W, W, W, W, W, W]),
+    Entry(Signals(Sigprocmask), "sigprocmask", Both(126), 3, [S, W, W, W, W, W]),
+];
+
+#[rattlefmt::skip]
+const RETURNS: &[Entry] = &[
+    Entry(Returns(RtSigreturn), "rt_sigreturn", Both(173), 0, [W, W, W, W, W, W]),
+    Entry(Returns(Sigreturn), "sigreturn", Both(119), 0, [W, W, W, W, W, W]),
 ];

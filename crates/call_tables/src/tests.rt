@@ -1,15 +1,15 @@
 use crate::{
     DescriptorOperation, FileOperation, IdentityOperation, LengthOperation, LimitOperation,
     ListingOperation, NameOperation, Operation, PathOperation, PipeOperation, ReadinessOperation,
-    RetimingOperation, SendingOperation, StatusOperation, TimeOperation, TransferOperation,
-    VectorOperation, find_row,
+    RetimingOperation, ReturnOperation, SendingOperation, SignalOperation, StatusOperation,
+    TimeOperation, TransferOperation, VectorOperation, find_row,
 };
 use abi_registers::Form::{self, Pair, Signed, Word};
 use kernel_values::AbiKind::{ArmEabi, Ia32};
 use std::test::*;
 
 /// A call with its numbers on i386 and arm, its name, its count, and its first forms.
-const CALLS: [(u32, u32, &[u8], usize, [Form; 2]); 54] = [
+const CALLS: [(u32, u32, &[u8], usize, [Form; 2]); 66] = [
     (1, 1, b"exit", 1, [Signed, Word]),
     (3, 3, b"read", 3, [Signed, Word]),
     (4, 4, b"write", 3, [Signed, Word]),
@@ -19,6 +19,7 @@ const CALLS: [(u32, u32, &[u8], usize, [Form; 2]); 54] = [
     (12, 12, b"chdir", 1, [Word, Word]),
     (19, 19, b"lseek", 3, [Signed, Signed]),
     (20, 20, b"getpid", 0, [Word, Word]),
+    (37, 37, b"kill", 2, [Signed, Signed]),
     (38, 38, b"rename", 2, [Word, Word]),
     (39, 39, b"mkdir", 2, [Word, Word]),
     (40, 40, b"rmdir", 1, [Word, Word]),
@@ -27,20 +28,31 @@ const CALLS: [(u32, u32, &[u8], usize, [Form; 2]); 54] = [
     (54, 54, b"ioctl", 3, [Signed, Word]),
     (55, 55, b"fcntl", 3, [Signed, Word]),
     (63, 63, b"dup2", 2, [Signed, Signed]),
+    (67, 67, b"sigaction", 3, [Signed, Word]),
     (75, 75, b"setrlimit", 2, [Word, Word]),
     (77, 77, b"getrusage", 2, [Signed, Word]),
     (78, 78, b"gettimeofday", 2, [Word, Word]),
     (92, 92, b"truncate", 2, [Word, Signed]),
     (93, 93, b"ftruncate", 2, [Signed, Signed]),
+    (104, 104, b"setitimer", 3, [Signed, Word]),
+    (105, 105, b"getitimer", 2, [Signed, Word]),
     (106, 106, b"stat", 2, [Word, Word]),
     (108, 108, b"fstat", 2, [Signed, Word]),
+    (119, 119, b"sigreturn", 0, [Word, Word]),
+    (126, 126, b"sigprocmask", 3, [Signed, Word]),
     (140, 140, b"_llseek", 5, [Signed, Word]),
     (141, 141, b"getdents", 3, [Signed, Word]),
     (142, 142, b"_newselect", 5, [Signed, Word]),
     (145, 145, b"readv", 3, [Signed, Word]),
     (146, 146, b"writev", 3, [Signed, Word]),
     (162, 162, b"nanosleep", 2, [Word, Word]),
+    (173, 173, b"rt_sigreturn", 0, [Word, Word]),
+    (174, 174, b"rt_sigaction", 4, [Signed, Word]),
+    (175, 175, b"rt_sigprocmask", 4, [Signed, Word]),
+    (176, 176, b"rt_sigpending", 2, [Word, Word]),
+    (178, 178, b"rt_sigqueueinfo", 3, [Signed, Signed]),
     (183, 183, b"getcwd", 2, [Word, Word]),
+    (186, 186, b"sigaltstack", 2, [Word, Word]),
     (187, 187, b"sendfile", 4, [Signed, Signed]),
     (191, 191, b"ugetrlimit", 2, [Word, Word]),
     (193, 193, b"truncate64", 2, [Word, Pair]),
@@ -151,7 +163,7 @@ fn one_number_means_two_calls(rt: HostRuntime) -> Result<(), Fail> {
 }
 
 /// A number on i386, and its call: one of each kind.
-const OPERATIONS: [(u32, Operation); 15] = [
+const OPERATIONS: [(u32, Operation); 17] = [
     (
         5,
         Operation::Files(FileOperation::Paths(PathOperation::Open)),
@@ -200,6 +212,8 @@ const OPERATIONS: [(u32, Operation); 15] = [
     (162, Operation::Times(TimeOperation::Nanosleep)),
     (191, Operation::Limits(LimitOperation::Ugetrlimit)),
     (252, Operation::Identity(IdentityOperation::ExitGroup)),
+    (178, Operation::Signals(SignalOperation::RtSigqueueinfo)),
+    (173, Operation::Returns(ReturnOperation::RtSigreturn)),
 ];
 
 #[test]

@@ -5,8 +5,8 @@ use Rattle.kernel_values.specs.Times.{micros_of, time_of}
 use Rattle.kernel_values.specs.declared.errno.Errno.TheVariants.{Interrupted}
 use Rattle.kernel_values.specs.declared.times.TimeSpec.{TimeSpec}
 use Rattle.native_kernel.specs.declared.state.Kernel.{Kernel}
-use Rattle.native_kernel.specs.declared.state.Slept.{Slept}
-use Rattle.native_kernel.specs.declared.state.Slept.TheVariants.{Whole, Cut}
+use Rattle.signal_clock.specs.declared.values.Slept.{Slept}
+use Rattle.signal_clock.specs.declared.values.Slept.TheVariants.{Whole, Cut}
 use Rattle.native_kernel.specs.Operations as native
 use Rattle.abi_registers.specs.declared.arguments.Args.{Args}
 use Rattle.abi_registers.specs.Values.{signed, word}

@@ -1,5 +1,5 @@
 -- One call of a process, whole.
-use Rattle.std.specs.Prelude.{◌≡◌, ℕ, max, Bool, true, Option, Some, None, Result, Ok, Err}
+use Rattle.std.specs.Prelude.{◌≡◌, ℕ, max, Bool, true, false, Option, Some, None, Result, Ok, Err}
 use Rattle.kernel_values.specs.Errno.{errno_word}
 use Rattle.kernel_values.specs.declared.errno.Errno.{Errno}
 use Rattle.kernel_values.specs.declared.errno.Errno.TheVariants.{NoCall}
@@ -9,9 +9,15 @@ use Rattle.native_kernel.specs.Operations.{end_of}
 use Rattle.kernel_values.specs.declared.process_end.End.{End}
 use Rattle.abi_registers.specs.declared.registers.Registers.{Registers}
 use Rattle.abi_registers.specs.Arguments.{args_of}
-use Rattle.abi_registers.specs.Places.{kind_in, number_in, words_in, with_result}
+use Rattle.abi_registers.specs.Places.{kind_in, number_in, stack_pointer_in, words_in, with_result}
 use Rattle.layout_laws.specs.Abis.{AbiRules, rules_of}
+use Rattle.call_tables.specs.declared.operation.Operation.{Operation}
+use Rattle.call_tables.specs.declared.operation.Operation.TheVariants.{Files, Readiness, Times, Limits, Identity, Signals, Returns}
+use Rattle.call_tables.specs.declared.operation.ReturnOperation.{ReturnOperation}
+use Rattle.call_tables.specs.declared.operation.ReturnOperation.TheVariants.{RtSigreturn, Sigreturn}
 use Rattle.call_tables.specs.Rows.{CallRow, row}
+use Rattle.signal_frames.specs.Delivery.{State, delivered}
+use Rattle.signal_frames.specs.Returns.{returned}
 use Rattle.served_calls.specs.Calls.{Memory, Served, Service, spare}
 use Rattle.compat_calls.specs.declared.world.World.{World}
 use Rattle.compat_calls.specs.Choice.{call_need, call_service}
@@ -23,7 +29,7 @@ Trapped = Registers × World
 -- what serves a row with the words of the registers; a number without a row is no call
 abbrev pub by_row : AbiRules → Registers → Memory → Kernel → Option CallRow → Service Kernel
 by_row abi r m k None = spare (Err NoCall, (m, k))
-by_row abi r m k (Some row) = call_service row.operation abi (args_of (kind_in r) (words_in r) row.forms) m k
+by_row abi r m k (Some row) = call_service row.operation (stack_pointer_in r) abi (args_of (kind_in r) (words_in r) row.forms) m k
 
 unfoldable pub service_of : AbiRules → Registers → Memory → Kernel → Service Kernel
 service_of abi r m k = by_row abi r m k (row (kind_in r) (number_in r))
@@ -53,13 +59,55 @@ answered_registers r answer (Some end) = r
 abbrev pub left_by : Registers → World → ℕ → Served Kernel → Trapped
 left_by r w need s = (answered_registers r s.0 (end_of s.1.1), record w { memory = s.1.0; kernel = s.1.1; region = max w.region need })
 
--- a row's call, or no call, and then the result in its place
-unfoldable pub called : Registers → World → Trapped
-called r w = left_by r w (need_of r w.kernel) (service_of (rules_of (kind_in r)) r w.memory w.kernel).outcome
+-- every call but a return from a handler: its row's call, or no call, and then the result in its place
+unfoldable pub answered : Registers → World → Trapped
+answered r w = left_by r w (need_of r w.kernel) (service_of (rules_of (kind_in r)) r w.memory w.kernel).outcome
 
--- one call of a process; nothing follows it
-abbrev pub trapped : Registers → World → Trapped
-trapped r w = called r w
+-- the return from a handler that a row asks for
+abbrev pub return_of : Operation → Option ReturnOperation
+return_of (Files call) = None
+return_of (Readiness call) = None
+return_of (Times call) = None
+return_of (Limits call) = None
+return_of (Identity call) = None
+return_of (Signals call) = None
+return_of (Returns call) = Some call
+
+abbrev pub row_return : Option CallRow → Option ReturnOperation
+row_return None = None
+row_return (Some row) = return_of row.operation
+
+unfoldable pub return_called : Registers → Option ReturnOperation
+return_called r = row_return (row (kind_in r) (number_in r))
+
+-- the frame of rt_sigreturn has information, that of sigreturn has none
+abbrev pub is_informed : ReturnOperation → Bool
+is_informed RtSigreturn = true
+is_informed Sigreturn = false
+
+-- a return sets registers and kernel, and puts no result
+abbrev pub set_by : World → Registers × Kernel → Trapped
+set_by w after = (after.0, record w { kernel = after.1 })
+
+abbrev pub called_by : Option ReturnOperation → Registers → World → Trapped
+called_by None r w = answered r w
+called_by (Some call) r w = set_by w (returned (is_informed call) r w.memory w.kernel)
+
+-- one call, before signals are taken
+unfoldable pub called : Registers → World → Trapped
+called r w = called_by (return_called r) r w
+
+-- the world and the registers after signals were delivered
+abbrev pub signalled : World → State → Trapped
+signalled w s = (s.0, record w { memory = s.1.0; kernel = s.1.1 })
+
+abbrev pub then_signals : Trapped → Trapped
+then_signals t = signalled t.1 (delivered t.1.restorer t.0 t.1.memory t.1.kernel)
+
+-- One call of a process, whole: the call, also where it is refused or unknown, and then each signal that can be delivered. Of a
+-- process that has ended none can be.
+unfoldable pub trapped : Registers → World → Trapped
+trapped r w = then_signals (called r w)
 
 -- A trap left the registers and the world of its definition. Want of memory comes only where it may.
 abbrev pub Traps : Bool → Result Registers OutOfMemory → World → Trapped → Type 0

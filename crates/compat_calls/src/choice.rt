@@ -10,11 +10,12 @@ use crate::{identity, limits, times};
 use abi_registers::Args;
 use call_tables::{IdentityOperation, LimitOperation, Operation, TimeOperation};
 use file_calls::serve_file;
-use kernel_values::Answer;
+use kernel_values::{Answer, Errno, KernelFault};
 use layout_laws::Compat;
 use native_kernel::Kernel;
 use readiness_calls::serve_readiness;
 use scratch_region::Scratch;
+use signal_calls::serve_signal;
 use std::alloc::Global;
 use user_memory::UserMemory;
 
@@ -72,8 +73,8 @@ fn serve_identity<A: Compat>(
     }
 }
 
-/// Serves a call by its row. Memory may be wanting only where the call's line says so. The region for translation is empty
-/// before and after.
+/// Serves a call by its row, at the stack pointer of the caller. A return from a handler isn't served here: ENOSYS. Memory may be
+/// wanting only where the call's line says so. The region for translation is empty before and after.
 #[tactic(auto, using(scratch_region::proofs::Counts::none_taken), unfolding(crate::specs::Choice::call_service, crate::specs::Choice::call_need))]
 pub fn serve_row<A: Compat>(
     alloc: Global,
@@ -81,11 +82,12 @@ pub fn serve_row<A: Compat>(
     kernel: &mut Kernel,
     scratch: &mut Scratch,
     operation: Operation,
+    stack_pointer: u32,
     args: &Args,
 ) -> Answer<u32>
     requires empty { IsEmpty scratch.old }
     requires room { 16384 ≤ scratch.old.capacity }
-    ensures serves { ServesAs result memory.new kernel.new (call_service operation (rules A.KIND A.ALIGN64) args.now memory.old kernel.old) }
+    ensures serves { ServesAs result memory.new kernel.new (call_service operation stack_pointer (rules A.KIND A.ALIGN64) args.now memory.old kernel.old) }
     ensures region { Takes (call_need operation args.now kernel.old) result scratch.old scratch.new }
 {
     match operation {
@@ -94,5 +96,7 @@ pub fn serve_row<A: Compat>(
         Operation::Times(call) => serve_time::<A>(memory, kernel, call, args),
         Operation::Limits(call) => serve_limit::<A>(memory, kernel, call, args),
         Operation::Identity(call) => serve_identity::<A>(memory, kernel, call, args),
+        Operation::Signals(call) => serve_signal::<A>(memory, kernel, call, stack_pointer, args),
+        Operation::Returns(_) => Err(KernelFault::Errno(Errno::NoCall)),
     }
 }

@@ -347,3 +347,71 @@ fn a_file_is_written_and_read_on_ia32(rt: HostRuntime) -> Result<(), Fail> {
     are_stored(&rt, &world, &[READ_BYTES]);
     Ok(())
 }
+
+#[test]
+fn a_signal_without_a_handler_ends_the_process(rt: HostRuntime) -> Result<(), Fail> {
+    let mut world = world(rt.alloc(), false, &[])?;
+    let calls = [(37, [1_000, 0, 0, 0], 0), (37, [1_000, 10, 0, 0], 0)];
+    are_served(&rt, rt.alloc(), &mut world, &calls);
+    assert_eq!(rt; world.kernel.ended(), Some(End::Signal(10)));
+    Ok(())
+}
+
+/// Each call leaves these registers.
+fn lead_to(rt: &impl Abort, alloc: Global, world: &mut World, calls: &[(Registers, Registers)]) {
+    for (before, left) in calls {
+        assert_eq!(rt; after(alloc, world, before), Some(*left));
+    }
+}
+
+/// An action with a handler at 8000 that wants information, and a return at 9000; then the same in the old form, without information.
+const ACTIONS: [u8; 36] = [
+    0, 0x80, 0, 0, 4, 0, 0, 4, 0, 0x90, 0, 0, 0, 0, 0, 0, 0, 0, 0, 0, 0, 0x80, 0, 0, 0, 0, 0, 0, 0,
+    0, 0, 4, 0, 0x90, 0, 0,
+];
+
+#[test]
+fn a_handler_runs_and_returns_on_arm(rt: HostRuntime) -> Result<(), Fail> {
+    let mut world = world(rt.alloc(), false, &ACTIONS)?;
+    are_served(&rt, rt.alloc(), &mut world, &[(174, [10, 0x1000, 0, 8], 0)]);
+    // A frame of 880 bytes below 2000.
+    let calls = [
+        (
+            Registers::Arm([
+                1_000, 10, 0, 0, 0, 0, 0, 37, 0, 0, 0, 0, 0, 0x2000, 0, 0x7000, 0x10,
+            ]),
+            Registers::Arm([
+                10, 0x1c90, 0x1d10, 0, 0, 0, 0, 37, 0, 0, 0, 0, 0, 0x1c90, 0x9000, 0x8000, 0x10,
+            ]),
+        ),
+        (
+            Registers::Arm([
+                0, 0, 0, 0, 0, 0, 0, 173, 0, 0, 0, 0, 0, 0x1c90, 0, 0x9000, 0x10,
+            ]),
+            Registers::Arm([
+                0, 10, 0, 0, 0, 0, 0, 37, 0, 0, 0, 0, 0, 0x2000, 0, 0x7000, 0x10,
+            ]),
+        ),
+    ];
+    lead_to(&rt, rt.alloc(), &mut world, &calls);
+    Ok(())
+}
+
+#[test]
+fn a_handler_runs_and_returns_on_ia32(rt: HostRuntime) -> Result<(), Fail> {
+    let mut world = world(rt.alloc(), false, &ACTIONS)?;
+    // A frame of 732 bytes below 2000, its address 4 below a multiple of 16.
+    let calls = [
+        (ia32(67, [10, 0x1014, 0, 0]), ia32(0, [10, 0x1014, 0, 0])),
+        (
+            Registers::Ia32([37, 1_000, 10, 0, 0, 0, 0, 0x2000, 0x7000, 0x203]),
+            Registers::Ia32([10, 1_000, 0, 0, 0, 0, 0, 0x1d1c, 0x8000, 0x203]),
+        ),
+        (
+            Registers::Ia32([119, 0, 0, 0, 0, 0, 0, 0x1d24, 0x9000, 0x203]),
+            Registers::Ia32([0, 1_000, 10, 0, 0, 0, 0, 0x2000, 0x7000, 0x203]),
+        ),
+    ];
+    lead_to(&rt, rt.alloc(), &mut world, &calls);
+    Ok(())
+}

@@ -6,16 +6,17 @@ ghost use Rattle.layout_laws.specs.Abis.{rules};
 ghost use Rattle.native_kernel.specs.Operations.{end_of};
 ghost use Rattle.served_calls.specs.Calls.{ServesAs};
 ghost use Rattle.compat_calls.specs.Ready.{Counts};
-ghost use Rattle.compat_calls.specs.Trap.{Traps, may_want, need_of, service_of, trapped};
+ghost use Rattle.compat_calls.specs.Trap.{Traps, answered, called, may_want, need_of, return_called, return_of, service_of, trapped};
 
 use crate::choice::serve_row;
 use crate::region::{CallRegion, release_all};
 use crate::world::World;
 use abi_registers::Registers;
-use call_tables::find_row;
+use call_tables::{Operation, ReturnOperation, find_row};
 use kernel_values::{AbiKind, Answer, Errno, KernelFault, OutOfMemory};
 use layout_laws::{ArmEabi, Compat, Ia32};
 use native_kernel::Kernel;
+use signal_frames::{deliver_all, rt_sigreturn, sigreturn};
 use std::alloc::Global;
 use user_memory::UserMemory;
 
@@ -35,27 +36,31 @@ fn answer<A: Compat>(
         return Err(KernelFault::Errno(Errno::NoCall));
     };
     let args = registers.arguments(&row.forms[..row.count]);
-    let operation = row.operation;
-    let answer = serve_row::<A>(alloc, memory, kernel, &mut region.scratch, operation, &args);
+    let answer = serve_row::<A>(
+        alloc,
+        memory,
+        kernel,
+        &mut region.scratch,
+        row.operation,
+        registers.stack_pointer(),
+        &args,
+    );
     release_all(&mut region.scratch);
     answer
 }
 
-/// Serves one call of a process that hasn't ended, and answers its registers after it: the result in
-/// eax or r0, an error number as its two's complement, and all others as they were. A call that ends
-/// the process leaves all of them.
+/// Serves a call that is no return from a handler: the result in eax or r0, an error number as its two's complement, and all other
+/// registers as they were. A call that ends the process leaves all of them.
 ///
 /// Of the region, which is empty before and after, the peak moves to what the call took where that is more.
-/// Want of memory comes only for a call that may take memory.
-#[tactic(auto, unfolding(crate::specs::Trap::called, crate::specs::Trap::may_want))]
-pub fn trap<A: Compat>(
+#[tactic(auto, unfolding(crate::specs::Trap::answered, crate::specs::Trap::may_want))]
+fn answered<A: Compat>(
     alloc: Global,
     world: &mut World,
     registers: &Registers,
 ) -> Result<Registers, OutOfMemory>
-    requires kind { kind_in registers.now ≡ A.KIND }
-    requires running { end_of world.old.kernel ≡ None }
-    ensures { Traps (may_want registers.now world.old) result world.new (trapped registers.now world.old) }
+    requires { kind_in registers.now ≡ A.KIND }
+    ensures { Traps (may_want registers.now world.old) result world.new (answered registers.now world.old) }
 {
     let word = match answer::<A>(
         alloc,
@@ -72,6 +77,67 @@ pub fn trap<A: Compat>(
         return Ok(*registers);
     }
     Ok(registers.with_result(word))
+}
+
+/// The return from a handler that a row asks for.
+fn return_of(operation: Operation) -> Option<ReturnOperation>
+    ensures { result ≡ return_of operation }
+{
+    match operation {
+        Operation::Returns(call) => Some(call),
+        _ => None,
+    }
+}
+
+/// The return from a handler that the registers name.
+#[tactic(auto, unfolding(crate::specs::Trap::return_called))]
+fn return_called(registers: &Registers) -> Option<ReturnOperation>
+    ensures { result ≡ return_called registers.now }
+{
+    return_of(find_row(registers.kind(), registers.number())?.operation)
+}
+
+/// Serves one call, before signals are taken.
+#[tactic(auto, unfolding(crate::specs::Trap::called))]
+fn call<A: Compat>(
+    alloc: Global,
+    world: &mut World,
+    registers: &Registers,
+) -> Result<Registers, OutOfMemory>
+    requires { kind_in registers.now ≡ A.KIND }
+    ensures { Traps (may_want registers.now world.old) result world.new (called registers.now world.old) }
+{
+    match return_called(registers) {
+        None => answered::<A>(alloc, world, registers),
+        Some(ReturnOperation::Sigreturn) => Ok(sigreturn(
+            &mut world.kernel,
+            &world.memory,
+            registers,
+        )),
+        Some(ReturnOperation::RtSigreturn) => {
+            Ok(rt_sigreturn(&mut world.kernel, &world.memory, registers))
+        }
+    }
+}
+
+/// Serves one call of a process that hasn't ended, delivers the signals that can be, and answers its registers after that: those of
+/// the handler that runs first, where one does.
+///
+/// Of the region, which is empty before and after, the peak moves to what the call took where that is more. Want of memory comes only
+/// for a call that may take memory; a return and the delivery of signals take none.
+#[tactic(auto, unfolding(crate::specs::Trap::trapped))]
+pub fn trap<A: Compat>(
+    alloc: Global,
+    world: &mut World,
+    registers: &Registers,
+) -> Result<Registers, OutOfMemory>
+    requires kind { kind_in registers.now ≡ A.KIND }
+    requires running { end_of world.old.kernel ≡ None }
+    ensures { Traps (may_want registers.now world.old) result world.new (trapped registers.now world.old) }
+{
+    let left = call::<A>(alloc, world, registers)?;
+    let restorer = world.restorer;
+    Ok(deliver_all(&mut world.kernel, &mut world.memory, restorer, &left))
 }
 
 /// Serves one call of a process, by the kind of its registers.

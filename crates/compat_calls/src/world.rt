@@ -6,14 +6,14 @@ use native_kernel::{Identity, Kernel};
 use std::alloc::Global;
 use user_memory::UserMemory;
 
-/// A process and the kernel behind it. `restorer` is the return address of signal handlers whose
-/// action gives none; it has no effect before signals are delivered.
+/// A process and the kernel behind it.
 #[derive(Drop)]
 pub struct World {
     pub memory: UserMemory,
     pub kernel: Kernel,
     /// What calls translate in.
     pub region: CallRegion,
+    /// The return address of signal handlers whose action gives none.
     pub restorer: u32,
 }
 

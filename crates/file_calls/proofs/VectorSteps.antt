@@ -1,6 +1,5 @@
 -- The calls on vectors, from what they fetch to what they store.
 use Rattle.std.proofs.Common.{◌≡◌, ◌≤◌, ℕ, ℤ, ◌*◌, true, false, List, Ok, Err, length, refl}
-use Rattle.std.specs.Prelude.{nat_lt}
 use Rattle.std.proofs.lemmas.Bool.{le-ltb}
 use Rattle.kernel_values.specs.declared.errno.Errno.{Errno}
 use Rattle.abi_registers.specs.declared.arguments.Args.{Args}

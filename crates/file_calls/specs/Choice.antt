@@ -29,6 +29,8 @@ use Rattle.call_tables.specs.declared.operation.RetimingOperation.TheVariants.{U
 use Rattle.call_tables.specs.declared.operation.LengthOperation.{LengthOperation}
 use Rattle.call_tables.specs.declared.operation.LengthOperation.TheVariants.{Fallocate, Ftruncate, Ftruncate64, Truncate, Truncate64}
 use Rattle.open_files.specs.Transfers.{moves_bytes}
+use Rattle.open_files.specs.declared.state.Place.{Place}
+use Rattle.open_files.specs.declared.state.Place.TheVariants.{Current}
 use Rattle.served_calls.specs.Calls.{Memory, Service, served, spare, taking, taking_if}
 use Rattle.file_calls.specs.Commands.{command_64_of, command_of, command_takes_memory}
 use Rattle.file_calls.specs.Descriptors as descriptors
@@ -79,15 +81,18 @@ transfer_service Pwrite64 abi args m k = taking (served (transfers.pwrite64 abi 
 transfer_service Read abi args m k = taking_if (moves_bytes (transfers.read abi args m k).operation.0) (served (transfers.read abi args) m k)
 transfer_service Write abi args m k = taking (served (transfers.write abi args) m k)
 
+abbrev pub reads_vector : Place → AbiRules → Args → Memory → Kernel → Service Kernel
+reads_vector place abi args m k = taking_if (moves_bytes (vectors.read_vector place abi args m k).operation.0) (served (vectors.read_vector place abi args) m k)
+
 unfoldable pub vector_service : VectorOperation → AbiRules → Args → Memory → Kernel → Service Kernel
-vector_service Preadv abi args m k = taking_if (moves_bytes (vectors.preadv abi args m k).operation.0) (served (vectors.preadv abi args) m k)
-vector_service Pwritev abi args m k = taking (served (vectors.pwritev abi args) m k)
-vector_service Readv abi args m k = taking_if (moves_bytes (vectors.readv abi args m k).operation.0) (served (vectors.readv abi args) m k)
-vector_service Writev abi args m k = taking (served (vectors.writev abi args) m k)
+vector_service Preadv abi args m k = reads_vector (vectors.offset_place args) abi args m k
+vector_service Pwritev abi args m k = taking (served (vectors.write_vector (vectors.offset_place args) abi args) m k)
+vector_service Readv abi args m k = reads_vector Current abi args m k
+vector_service Writev abi args m k = taking (served (vectors.write_vector Current abi args) m k)
 
 unfoldable pub sending_service : SendingOperation → AbiRules → Args → Memory → Kernel → Service Kernel
-sending_service Sendfile abi args m k = taking (served (sending.sendfile abi args) m k)
-sending_service Sendfile64 abi args m k = taking (served (sending.sendfile64 abi args) m k)
+sending_service Sendfile abi args m k = taking (served (sending.send_file true abi args) m k)
+sending_service Sendfile64 abi args m k = taking (served (sending.send_file false abi args) m k)
 
 unfoldable pub listing_service : ListingOperation → AbiRules → Args → Memory → Kernel → Service Kernel
 listing_service Getdents abi args m k = taking (listings.getdents false args m k)

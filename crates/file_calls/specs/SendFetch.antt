@@ -1,5 +1,5 @@
 -- Where the calls that send bytes of a file read them.
-use Rattle.std.specs.Prelude.{true, false, not, Option, Some, None, Result, Ok, ⊤}
+use Rattle.std.specs.Prelude.{ℕ, Bool, true, false, not, Option, Some, None, Result, Ok, ⊤}
 use Rattle.kernel_values.specs.Outcome.{◌>>=◌, ◌>>◌, refused_if}
 use Rattle.kernel_values.specs.declared.errno.Errno.{Errno}
 use Rattle.kernel_values.specs.declared.errno.Errno.TheVariants.{BadDescriptor}
@@ -32,16 +32,17 @@ abbrev pub place_of_64 : Option Position64 → Place
 place_of_64 None = Current
 place_of_64 (Some p) = At p.position
 
--- the place of (target, source, offset, count), with an offset of 32 bits
-unfoldable pub narrow_place : AbiRules → Args → Memory → Kernel → Result Place Errno
-narrow_place abi args m k = do
-  can_send args k
-  offset ← optional_shape_at position_32 abi m (word args 2)
+-- the place that a pointer to an offset names; a narrow offset has 32 bits, and a wide one 64
+unfoldable pub place_at : Bool → AbiRules → ℕ → Memory → Result Place Errno
+place_at true abi at m = do
+  offset ← optional_shape_at position_32 abi m at
   Ok (place_of_32 offset)
-
--- and with one of 64 bits
-unfoldable pub wide_place : AbiRules → Args → Memory → Kernel → Result Place Errno
-wide_place abi args m k = do
-  can_send args k
-  offset ← optional_shape_at position_64 abi m (word args 2)
+place_at false abi at m = do
+  offset ← optional_shape_at position_64 abi m at
   Ok (place_of_64 offset)
+
+-- the place of (target, source, offset, count)
+abbrev pub send_place : Bool → AbiRules → Args → Memory → Kernel → Result Place Errno
+send_place narrow abi args m k = do
+  can_send args k
+  place_at narrow abi (word args 2) m

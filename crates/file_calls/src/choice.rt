@@ -18,7 +18,7 @@ use call_tables::{
 };
 use kernel_values::Answer;
 use layout_laws::Compat;
-use native_kernel::Kernel;
+use native_kernel::{Kernel, Place};
 use scratch_region::Scratch;
 use std::alloc::Global;
 use user_memory::UserMemory;
@@ -133,10 +133,20 @@ fn serve_vector<A: Compat>(
     ensures region { Takes (vector_call_need operation args.now kernel.old) result scratch.old scratch.new }
 {
     match operation {
-        VectorOperation::Preadv => vectors::preadv::<A>(alloc, memory, kernel, scratch, args),
-        VectorOperation::Pwritev => vectors::pwritev::<A>(alloc, memory, kernel, scratch, args),
-        VectorOperation::Readv => vectors::readv::<A>(alloc, memory, kernel, scratch, args),
-        VectorOperation::Writev => vectors::writev::<A>(alloc, memory, kernel, scratch, args),
+        VectorOperation::Preadv => {
+            let place = vectors::offset_place(args);
+            vectors::read_vector::<A>(alloc, memory, kernel, scratch, args, place)
+        }
+        VectorOperation::Pwritev => {
+            let place = vectors::offset_place(args);
+            vectors::write_vector::<A>(alloc, memory, kernel, scratch, args, place)
+        }
+        VectorOperation::Readv => {
+            vectors::read_vector::<A>(alloc, memory, kernel, scratch, args, Place::Current)
+        }
+        VectorOperation::Writev => {
+            vectors::write_vector::<A>(alloc, memory, kernel, scratch, args, Place::Current)
+        }
     }
 }
 
@@ -151,8 +161,8 @@ fn serve_sending<A: Compat>(
     ensures { ServesAs result memory.new kernel.new (sending_service operation (rules A.KIND A.ALIGN64) args.now memory.old kernel.old) }
 {
     match operation {
-        SendingOperation::Sendfile => sending::sendfile::<A>(alloc, memory, kernel, args),
-        SendingOperation::Sendfile64 => sending::sendfile64::<A>(alloc, memory, kernel, args),
+        SendingOperation::Sendfile => sending::send_file::<A>(alloc, memory, kernel, args, true),
+        SendingOperation::Sendfile64 => sending::send_file::<A>(alloc, memory, kernel, args, false),
     }
 }
 

@@ -3,14 +3,11 @@
 
 ghost use Rattle.std.specs.Prelude.{◌≡◌, ◌≤◌, ◌<◌, ◌^◌, true, false, Ok};
 ghost use Rattle.open_files.specs.Transfers.{moves_bytes};
-ghost use Rattle.open_files.specs.declared.state.Place.TheVariants.{At};
-ghost use Rattle.abi_registers.specs.Values.{word};
 ghost use Rattle.layout_laws.specs.Abis.{rules};
 ghost use Rattle.scratch_region.specs.Needs.{IsEmpty, Takes, TookWithin};
 ghost use Rattle.served_calls.specs.Calls.{Serves, ServesBy, served};
-ghost use Rattle.file_calls.specs.Transfers.{halves};
 ghost use Rattle.file_calls.specs.VectorFetch.{vector_need};
-ghost use Rattle.file_calls.specs.Vectors.{preadv, pwritev, read_vector, readv, write_vector, writev};
+ghost use Rattle.file_calls.specs.Vectors.{offset_place, read_vector, write_vector};
 
 use crate::transfers::halves;
 use abi_registers::Args;
@@ -87,8 +84,12 @@ fn write_pieces<A: Compat>(
     Ok(written as u32)
 }
 
-/// Reads into the pieces of a vector, and gives its entries back.
-fn read_vector<A: Compat>(
+/// readv(descriptor, vector, count), and preadv(descriptor, vector, count, low, high) at the place that `offset_place` gives
+///
+/// EBADF; EINVAL for more than 1,024 entries, EFAULT where their array can't be read, EINVAL for a piece of 2^31 bytes or more; the refusals
+/// of `Kernel::read`. At most 0x7ffff000 bytes; answers how many. Memory may be wanting only where bytes move.
+/// The vector's entries are given back to the region.
+pub fn read_vector<A: Compat>(
     alloc: Global,
     memory: &mut UserMemory,
     kernel: &mut Kernel,
@@ -107,8 +108,12 @@ fn read_vector<A: Compat>(
     answer
 }
 
-/// Writes from the pieces of a vector, and gives its entries back.
-fn write_vector<A: Compat>(
+/// writev(descriptor, vector, count), and pwritev(descriptor, vector, count, low, high) at the place that `offset_place` gives
+///
+/// EBADF; EINVAL for more than 1,024 entries, EFAULT where their array can't be read, EINVAL for a piece of 2^31 bytes or more; the refusals
+/// of `Kernel::write`. At most 0x7ffff000 bytes; answers how many.
+/// The vector's entries are given back to the region.
+pub fn write_vector<A: Compat>(
     alloc: Global,
     memory: &mut UserMemory,
     kernel: &mut Kernel,
@@ -127,87 +132,9 @@ fn write_vector<A: Compat>(
     answer
 }
 
-/// Where the calls with an offset begin: its low word is argument 3, and its high word argument 4.
-fn offset_place(args: &Args) -> Place
-    ensures { result ≡ At (halves (word args.now 4) (word args.now 3)) }
+/// Where preadv and pwritev begin: the low word of the offset is argument 3, and its high word argument 4, on both ABIs.
+pub fn offset_place(args: &Args) -> Place
+    ensures { result ≡ offset_place args.now }
 {
     Place::At(halves(args.word(4), args.word(3)))
-}
-
-/// readv(descriptor, vector, count)
-///
-/// EBADF; EINVAL for more than 1,024 entries, EFAULT where their array can't be read, EINVAL for a piece of 2^31 bytes or more; the refusals
-/// of `Kernel::read`. At most 0x7ffff000 bytes; answers how many. Memory may be wanting only where bytes move.
-#[tactic(auto, unfolding(crate::specs::Vectors::readv))]
-pub fn readv<A: Compat>(
-    alloc: Global,
-    memory: &mut UserMemory,
-    kernel: &mut Kernel,
-    scratch: &mut Scratch,
-    args: &Args,
-) -> Answer<u32>
-    requires empty { IsEmpty scratch.old }
-    requires room { 16384 ≤ scratch.old.capacity }
-    ensures serves { ServesBy (moves_bytes (readv (rules A.KIND A.ALIGN64) args.now memory.old kernel.old).operation.0) result memory.new kernel.new (served (readv (rules A.KIND A.ALIGN64) args.now) memory.old kernel.old) }
-    ensures region { Takes (vector_need true args.now kernel.old) result scratch.old scratch.new }
-{
-    read_vector::<A>(alloc, memory, kernel, scratch, args, Place::Current)
-}
-
-/// preadv(descriptor, vector, count, low, high)
-///
-/// As readv, at an offset in two words.
-#[tactic(auto, unfolding(crate::specs::Vectors::preadv))]
-pub fn preadv<A: Compat>(
-    alloc: Global,
-    memory: &mut UserMemory,
-    kernel: &mut Kernel,
-    scratch: &mut Scratch,
-    args: &Args,
-) -> Answer<u32>
-    requires empty { IsEmpty scratch.old }
-    requires room { 16384 ≤ scratch.old.capacity }
-    ensures serves { ServesBy (moves_bytes (preadv (rules A.KIND A.ALIGN64) args.now memory.old kernel.old).operation.0) result memory.new kernel.new (served (preadv (rules A.KIND A.ALIGN64) args.now) memory.old kernel.old) }
-    ensures region { Takes (vector_need true args.now kernel.old) result scratch.old scratch.new }
-{
-    read_vector::<A>(alloc, memory, kernel, scratch, args, offset_place(args))
-}
-
-/// writev(descriptor, vector, count)
-///
-/// EBADF; EINVAL for more than 1,024 entries, EFAULT where their array can't be read, EINVAL for a piece of 2^31 bytes or more; the refusals
-/// of `Kernel::write`. At most 0x7ffff000 bytes; answers how many.
-#[tactic(auto, unfolding(crate::specs::Vectors::writev))]
-pub fn writev<A: Compat>(
-    alloc: Global,
-    memory: &mut UserMemory,
-    kernel: &mut Kernel,
-    scratch: &mut Scratch,
-    args: &Args,
-) -> Answer<u32>
-    requires empty { IsEmpty scratch.old }
-    requires room { 16384 ≤ scratch.old.capacity }
-    ensures serves { Serves result memory.new kernel.new (served (writev (rules A.KIND A.ALIGN64) args.now) memory.old kernel.old) }
-    ensures region { Takes (vector_need false args.now kernel.old) result scratch.old scratch.new }
-{
-    write_vector::<A>(alloc, memory, kernel, scratch, args, Place::Current)
-}
-
-/// pwritev(descriptor, vector, count, low, high)
-///
-/// As writev, at an offset in two words.
-#[tactic(auto, unfolding(crate::specs::Vectors::pwritev))]
-pub fn pwritev<A: Compat>(
-    alloc: Global,
-    memory: &mut UserMemory,
-    kernel: &mut Kernel,
-    scratch: &mut Scratch,
-    args: &Args,
-) -> Answer<u32>
-    requires empty { IsEmpty scratch.old }
-    requires room { 16384 ≤ scratch.old.capacity }
-    ensures serves { Serves result memory.new kernel.new (served (pwritev (rules A.KIND A.ALIGN64) args.now) memory.old kernel.old) }
-    ensures region { Takes (vector_need false args.now kernel.old) result scratch.old scratch.new }
-{
-    write_vector::<A>(alloc, memory, kernel, scratch, args, offset_place(args))
 }

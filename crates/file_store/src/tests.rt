@@ -28,20 +28,17 @@ struct Desk {
     alloc: Global,
 }
 
-// The same files. No clause says so: what comes next is then proved without what went before, which is many times quicker.
-fn unseen(files: Files) -> Files {
-    files
+// Files with nothing but the root.
+fn empty(alloc: Global) -> Answer<Desk> {
+    let files = Files::new(alloc)?;
+    Ok(Desk { files, alloc })
 }
 
 // The image has directory /d, inode 6, and file /f, inode 7, with bytes abc00.
 fn image(alloc: Global) -> Answer<Desk> {
-    let mut files = Files::new(alloc)?;
-    files.image_directory(alloc, b"/d", 6)?;
-    files = unseen(files);
-    files.image_file(alloc, b"f", 7, 5)?;
-    files = unseen(files);
-    files.image_bytes(alloc, b"/f", 0, b"abc")?;
-    Ok(Desk { files, alloc })
+    let mut desk = empty(alloc)?;
+    desk.plant()?;
+    Ok(desk)
 }
 
 fn told_fault(fault: KernelFault) -> i64 {
@@ -69,6 +66,24 @@ fn done(answer: Answer<()>) -> i64 {
     match answer {
         Ok(()) => 0,
         Err(fault) => told_fault(fault),
+    }
+}
+
+// No clause says what these leave: what comes next is then proved without what went before, which is many times quicker.
+// And what may end early has the files by reference, so that it isn't proved to let go of them at each of its ends.
+impl Desk {
+    fn add_directory(&mut self, path: &[u8], inode: u64) -> Answer<()> {
+        self.files.image_directory(self.alloc, path, inode)
+    }
+
+    fn add_file(&mut self, path: &[u8], inode: u64, size: u64) -> Answer<()> {
+        self.files.image_file(self.alloc, path, inode, size)
+    }
+
+    fn plant(&mut self) -> Answer<()> {
+        self.add_directory(b"/d", 6)?;
+        self.add_file(b"f", 7, 5)?;
+        self.files.image_bytes(self.alloc, b"/f", 0, b"abc")
     }
 }
 

@@ -6,6 +6,9 @@ use Rattle.kernel_values.specs.declared.times.Limit.{Limit}
 use Rattle.kernel_values.specs.declared.items.StateItem.{StateItem}
 use Rattle.kernel_values.specs.declared.items.StateItem.TheVariants as item
 use Rattle.file_store.specs.Items.{file_items, files_left}
+use Rattle.signal_clock.specs.Items.{signals_left}
+use Rattle.signal_clock.specs.declared.items.SignalCursor.{SignalCursor}
+use Rattle.signal_clock.specs.declared.items.SignalCursor.TheVariants as signal
 use Rattle.native_kernel.specs.Limits.{starting_limit}
 use Rattle.native_kernel.specs.declared.items.StateCursor.{StateCursor}
 use Rattle.native_kernel.specs.declared.items.StateCursor.TheVariants as cursor
@@ -28,8 +31,11 @@ limit_items resource (l ∷ ls) = if is_starting resource l then limit_items (re
 abbrev pub limits_left : Kernel → ℕ → List StateItem
 limits_left k resource = limit_items resource (drop resource k.limits.held) ++ file_items k.files
 
+abbrev pub signals_on : Kernel → SignalCursor → List StateItem
+signals_on k c = signals_left k.clocks k.signals c ++ limits_left k 0
+
 abbrev pub ended_left : Kernel → List StateItem
-ended_left k = ended_items k.ended ++ limits_left k 0
+ended_left k = ended_items k.ended ++ signals_on k signal.Timer
 
 -- the state, item by item, in the order of a report
 unfoldable pub items : Kernel → List StateItem
@@ -39,6 +45,7 @@ items k = item.Clock (record { real = k.clocks.real; monotonic = k.clocks.monoto
 unfoldable pub left : Kernel → StateCursor → List StateItem
 left k cursor.Clocks = items k
 left k cursor.Ended = ended_left k
+left k (cursor.Signals c) = signals_on k c
 left k (cursor.Limits resource) = limits_left k resource
 left k (cursor.Files c) = files_left k.files c
 

@@ -1,17 +1,39 @@
 -- One definition for each call of the kernel: its answer, and the state after it. A row opens none, but the seek that ends a listing.
-use Rattle.std.specs.Prelude.{Bool, ℕ, ℤ, List, Option, Some, None, Result, ⊤}
+use Rattle.std.specs.Prelude.{Bool, ℕ, ℤ, List, Option, Some, None, Result, Err, ⊤}
 use Rattle.kernel_values.specs.declared.errno.Errno.{Errno}
+use Rattle.kernel_values.specs.declared.errno.Errno.TheVariants.{BrokenPipe}
+use Rattle.kernel_values.specs.declared.errno.KernelFault.{KernelFault}
+use Rattle.kernel_values.specs.declared.errno.KernelFault.TheVariants as fault
 use Rattle.kernel_values.specs.declared.status.FileTimes.{FileTimes}
 use Rattle.kernel_values.specs.declared.times.Limit.{Limit}
 use Rattle.kernel_values.specs.declared.times.Usage.{Usage}
 use Rattle.kernel_values.specs.declared.times.TimeSpec.{TimeSpec}
+use Rattle.kernel_values.specs.declared.times.TimerValue.{TimerValue}
+use Rattle.kernel_values.specs.declared.signals.Action.{Action}
+use Rattle.kernel_values.specs.declared.signals.AltStack.{AltStack}
+use Rattle.kernel_values.specs.declared.signals.SigInfo.{SigInfo}
+use Rattle.kernel_values.specs.declared.signals.SignalSet.{SignalSet}
 use Rattle.kernel_values.specs.declared.identity.Credentials.{Credentials}
 use Rattle.kernel_values.specs.declared.listing.DirEntry.{DirEntry}
 use Rattle.kernel_values.specs.declared.locks.Lock.{Lock}
 use Rattle.kernel_values.specs.declared.status.Stat.{Stat}
 use Rattle.kernel_values.specs.declared.open_flags.OpenFlags.{OpenFlags}
 use Rattle.kernel_values.specs.Bounds.{at_fdcwd}
+use Rattle.kernel_values.specs.Outcome.{marked}
 use Rattle.kernel_values.specs.Times.{time_of}
+use Rattle.signal_clock.specs.declared.state.Signals.{Signals}
+use Rattle.signal_clock.specs.declared.values.Slept.{Slept}
+use Rattle.signal_clock.specs.declared.values.Taken.{Taken}
+use Rattle.signal_clock.specs.ClockState.{ClockState}
+use Rattle.signal_clock.specs.Actions as actions
+use Rattle.signal_clock.specs.Clocks as clocks
+use Rattle.signal_clock.specs.Masks as masks
+use Rattle.signal_clock.specs.Posting as posting
+use Rattle.signal_clock.specs.Sleeping as sleeping
+use Rattle.signal_clock.specs.Stacks as stacks
+use Rattle.signal_clock.specs.Taking as taking
+use Rattle.signal_clock.specs.Taking.{fresh_signals}
+use Rattle.signal_clock.specs.Timers as timers
 use Rattle.file_tree.specs.declared.state.Maker.{Maker}
 use Rattle.open_files.specs.declared.state.Place.{Place}
 use Rattle.file_tree.specs.Working as working_text
@@ -43,12 +65,10 @@ use Rattle.native_kernel.specs.declared.state.Kernel.{Kernel}
 use Rattle.kernel_values.specs.declared.process_end.End.{End}
 use Rattle.native_kernel.specs.declared.state.Identity.{Identity}
 use Rattle.native_kernel.specs.declared.state.Process.{Process}
-use Rattle.native_kernel.specs.declared.state.Slept.{Slept}
-use Rattle.native_kernel.specs.Clocks as clocks
 use Rattle.native_kernel.specs.Limits as limits
 use Rattle.native_kernel.specs.Usages as usages
 use Rattle.native_kernel.specs.Limits.{soft_limit, starting_limits}
-use Rattle.native_kernel.specs.State.{on_clocks, on_files, on_limits}
+use Rattle.native_kernel.specs.State.{on_clocks, on_files, on_limits, on_signals, on_time}
 
 unfoldable pub clock : Kernel → ℤ → Result ℕ Errno
 clock k id = clocks.clock k.clocks id
@@ -56,8 +76,18 @@ clock k id = clocks.clock k.clocks id
 unfoldable pub set_clock : Kernel → ℤ → TimeSpec → Result ⊤ Errno × Kernel
 set_clock k id time = on_clocks k (clocks.set_clock k.clocks k.process.privileged id time)
 
+abbrev pub slept : Kernel → Result Slept Errno × (ClockState × Signals) → Result Slept Errno × Kernel
+slept k outcome = (outcome.0, on_time k outcome.1)
+
 unfoldable pub sleep : Kernel → ℤ → Bool → TimeSpec → Result Slept Errno × Kernel
-sleep k id absolute time = on_clocks k (clocks.sleep k.clocks id absolute time)
+sleep k id absolute time = slept k (sleeping.sleep k.clocks k.signals id absolute time)
+
+-- the interval timer, and what is left of it
+unfoldable pub timer : Kernel → ℤ → Result TimerValue Errno
+timer k which = timers.tell_timer k.clocks which
+
+unfoldable pub set_timer : Kernel → ℤ → TimerValue → Result TimerValue Errno × Kernel
+set_timer k which value = on_clocks k (timers.set_timer k.clocks which value)
 
 unfoldable pub limit : Kernel → ℕ → Result Limit Errno
 limit k resource = limits.limit k.limits resource
@@ -65,9 +95,9 @@ limit k resource = limits.limit k.limits resource
 unfoldable pub set_limit : Kernel → ℕ → Limit → Result ⊤ Errno × Kernel
 set_limit k resource new = on_limits k (limits.set_limit k.limits k.process.privileged resource new)
 
--- both clocks move
+-- time passes: both clocks move, and the timer may fire
 unfoldable pub advanced : Kernel → ℕ → Kernel
-advanced k nanos = record k { clocks = clocks.passed k.clocks nanos }
+advanced k nanos = on_time k (sleeping.clock_moved k.clocks k.signals nanos)
 
 unfoldable pub usage : Kernel → ℤ → Result Usage Errno
 usage k who = usages.usage k.process.usage who
@@ -80,9 +110,47 @@ credentials k = record { pid = k.process.pid; uid = k.process.uid; gid = k.proce
 abbrev pub end_of : Kernel → Option End
 end_of k = k.ended
 
--- a process ends: its descriptors are closed, ascending
+-- a process ends: its descriptors are closed, ascending, and its timer stops
 unfoldable pub finish : Kernel → End → Kernel
-finish k end = record k { files = closing.close_all k.files; ended = Some end }
+finish k end = record k { clocks = timers.stopped k.clocks; files = closing.close_all k.files; ended = Some end }
+
+unfoldable pub kill : Kernel → ℤ → ℤ → Result ⊤ Errno × Kernel
+kill k pid signal = on_signals k (posting.kill k.signals (credentials k) pid signal)
+
+unfoldable pub queue : Kernel → ℤ → ℤ → SigInfo → Result ⊤ Errno × Kernel
+queue k pid signal info = on_signals k (posting.queue k.signals (credentials k) pid signal info)
+
+unfoldable pub change_action : Kernel → ℤ → Option Action → Result Action Errno × Kernel
+change_action k signal new = on_signals k (actions.change_action k.signals signal new)
+
+unfoldable pub change_mask : Kernel → ℤ → Option SignalSet → Bool → Result SignalSet Errno × Kernel
+change_mask k how set narrow = on_signals k (masks.change_mask k.signals how set narrow)
+
+unfoldable pub alt_stack : Kernel → ℕ → Option AltStack → ℤ → Result AltStack Errno × Kernel
+alt_stack k sp new flags = on_signals k (stacks.alt_stack k.signals sp new flags)
+
+-- the signals that wait and are blocked
+unfoldable pub pending : Kernel → SignalSet
+pending k = masks.pending k.signals
+
+-- what a return from a handler sets
+unfoldable pub with_mask : Kernel → ℕ → Kernel
+with_mask k set = record k { signals = masks.with_mask k.signals set }
+
+-- a signal is posted from outside, and nobody hears of a full queue
+unfoldable pub posted : Kernel → SigInfo → Kernel
+posted k info = record k { signals = posting.posted k.signals info }
+
+abbrev pub taken_of : Kernel → Option Taken × Signals → Option Taken × Kernel
+taken_of k taken = (taken.0, record k { signals = taken.1 })
+
+-- of a process that has ended no signal is taken
+abbrev pub next_unless : Kernel → Option End → Option Taken × Kernel
+next_unless k (Some end) = (None, k)
+next_unless k None = taken_of k (taking.next_signal k.signals)
+
+unfoldable pub next_signal : Kernel → Option Taken × Kernel
+next_signal k = next_unless k k.ended
 
 -- the soft limit of descriptors, RLIMIT_NOFILE
 unfoldable pub most_descriptors : Kernel → ℕ
@@ -104,15 +172,29 @@ close k fd = on_files k (descriptors.close k.files fd)
 unfoldable pub read : Kernel → ℤ → ℕ → ℕ → Place → Result (List ℕ) Errno × Kernel
 read k fd wanted room place = on_files k (transfers.read k.files fd wanted room place)
 
+-- SIGPIPE, 13, as the process itself sends it
+abbrev pub pipe_signal : Kernel → SigInfo
+pipe_signal k = posting.own_info (credentials k) 13
+
+-- who writes to a pipe without a reader gets SIGPIPE
+abbrev pub pipe_signalled : Errno → Kernel → Kernel
+pipe_signalled BrokenPipe k = posted k (pipe_signal k)
+pipe_signalled e k = k
+
+-- the same by an answer
+abbrev pub pipe_signalled_by : Result ℕ KernelFault → Kernel → Kernel
+pipe_signalled_by (Err (fault.Errno e)) k = pipe_signalled e k
+pipe_signalled_by answer k = k
+
 unfoldable pub write : Kernel → ℤ → ℕ → List ℕ → Place → Result ℕ Errno × Kernel
-write k fd wanted piece place = on_files k (transfers.write k.files (time_of k.clocks.real) fd wanted piece place)
+write k fd wanted piece place = marked pipe_signalled (on_files k (transfers.write k.files (time_of k.clocks.real) fd wanted piece place))
 
 unfoldable pub seek : Kernel → ℤ → ℤ → ℕ → Result ℤ Errno × Kernel
 seek k fd offset whence = on_files k (seeking.seek k.files fd offset whence)
 
 -- bytes of a file sent to what another descriptor has open
 unfoldable pub send_file : Kernel → ℤ → ℤ → Place → ℕ → Bool → Result ℕ Errno × Kernel
-send_file k target source place count narrow = on_files k (sending.send_file k.files (time_of k.clocks.real) target source place count narrow)
+send_file k target source place count narrow = marked pipe_signalled (on_files k (sending.send_file k.files (time_of k.clocks.real) target source place count narrow))
 
 -- what a descriptor is ready for
 unfoldable pub ready : Kernel → ℤ → Result Ready Errno
@@ -209,15 +291,16 @@ process_of i = record { pid = i.pid; uid = i.uid; gid = i.gid; privileged = i.pr
 unfoldable pub started : Identity → Kernel
 started i = record {
   process = process_of i;
-  clocks = record { real = i.real; monotonic = i.monotonic };
+  clocks = record { real = i.real; monotonic = i.monotonic; timer = None };
+  signals = fresh_signals;
   limits = starting_limits;
   files = fresh_files;
   ended = None;
 }
 
--- the same with both clocks set
+-- the same with both clocks set, and no timer
 unfoldable pub with_clocks : Kernel → ℕ → ℕ → Kernel
-with_clocks k real monotonic = record k { clocks = record { real = real; monotonic = monotonic } }
+with_clocks k real monotonic = record k { clocks = record { real = real; monotonic = monotonic; timer = None } }
 
 -- the same for the process of another owner; what it has used stays
 unfoldable pub with_owner : Kernel → Credentials → Bool → Kernel

@@ -3,7 +3,8 @@
 
 use crate::{Identity, Kernel, Place};
 use kernel_values::{
-    AT_FDCWD, AbiKind, Answer, End, Errno, KernelFault, Limit, OpenFlags, StateItem, Usage,
+    AT_FDCWD, AbiKind, Answer, End, Errno, KernelFault, Limit, OpenFlags, SignalSet, StateItem,
+    TimeVal, TimerValue, Usage,
 };
 use std::alloc::Global;
 use std::test::Fail;
@@ -26,20 +27,22 @@ struct Desk {
     alloc: Global,
 }
 
-/// The same kernel. No clause says so: what comes next is then proved without what went before.
-fn unseen(kernel: Kernel) -> Kernel {
-    kernel
-}
-
 /// The image has directory /d, inode 6, and file /f, inode 7, with bytes abc00.
 fn image(alloc: Global) -> Answer<Desk> {
     let mut kernel = Kernel::new(alloc, &OWNER)?;
-    kernel.image_directory(alloc, b"/d", 6)?;
-    kernel = unseen(kernel);
-    kernel.image_file(alloc, b"/f", 7, 5)?;
-    kernel = unseen(kernel);
-    kernel.image_bytes(alloc, b"/f", 0, b"abc")?;
+    fill(alloc, &mut kernel)?;
     Ok(Desk { kernel, alloc })
+}
+
+/// A function that may end early has the kernel by reference: each end of one that owns it would be proved to let go of all its parts.
+fn fill(alloc: Global, kernel: &mut Kernel) -> Answer<()> {
+    kernel.image_directory(alloc, b"/d", 6)?;
+    put_file(alloc, kernel)
+}
+
+fn put_file(alloc: Global, kernel: &mut Kernel) -> Answer<()> {
+    kernel.image_file(alloc, b"/f", 7, 5)?;
+    kernel.image_bytes(alloc, b"/f", 0, b"abc")
 }
 
 fn told_fault(fault: KernelFault) -> i64 {
@@ -228,6 +231,37 @@ impl Desk {
         done(self.kernel.set_limit(3, &Limit { soft: 1, hard: 2 }))
     }
 
+    /// Sets the timer to a second, blocks SIGUSR1, 10, and sends it.
+    fn send_blocked(&mut self) -> i64 {
+        let mask = SignalSet { bits: 0x200 };
+        self.kernel.set_mask(mask);
+        let no_time = TimeVal {
+            seconds: 0,
+            micros: 0,
+        };
+        let value = TimerValue {
+            interval: no_time,
+            value: TimeVal {
+                seconds: 1,
+                ..no_time
+            },
+        };
+        let set = self.kernel.set_timer(0, &value).is_ok();
+        if set {
+            done(self.kernel.kill(7, 10))
+        } else {
+            -1
+        }
+    }
+
+    /// The number of the next signal, 0 for none.
+    fn signal(&mut self) -> u32 {
+        match self.kernel.next_signal() {
+            Some(taken) => taken.info.signal,
+            None => 0,
+        }
+    }
+
     fn finish(&mut self) {
         self.kernel.finish(End::Exit(3));
     }
@@ -238,6 +272,9 @@ fn line(item: &StateItem) -> (&'static str, u64) {
     match item {
         StateItem::Clock(clock) => ("clock", clock.real),
         StateItem::Ended(_) => ("ended", 0),
+        StateItem::Timer(timer) => ("timer", timer.end),
+        StateItem::Mask(mask) => ("mask", mask.bits),
+        StateItem::Pending(info) => ("pending", u64::from(info.signal)),
         StateItem::Limit(limit) => ("limit", u64::from(limit.resource)),
         StateItem::Working(working) => ("cwd", working.inode),
         StateItem::Node(node) => ("node", node.inode),
@@ -294,6 +331,7 @@ fn a_pipe_is_written_and_read(rt: HostRuntime) -> Result<(), Fail> {
     assert_eq!(rt; desk.pipe(0), [203, 203]);
     assert_eq!(rt; desk.close(0), 0);
     assert_eq!(rt; desk.write(1, b"c"), -32);
+    assert_eq!(rt; desk.signal(), 13);
     Ok(())
 }
 
@@ -312,6 +350,9 @@ fn bytes_of_a_file_are_sent_to_a_pipe(rt: HostRuntime) -> Result<(), Fail> {
     assert_eq!(rt; desk.seek(2, 0, 1), 2);
     assert_eq!(rt; desk.close(0), 0);
     assert_eq!(rt; desk.ready(1), [false, true, true, false]);
+    assert_eq!(rt; desk.send(1, 2, Place::At(0), 1), -32);
+    assert_eq!(rt; desk.signal(), 13);
+    assert_eq!(rt; desk.signal(), 0);
     assert_eq!(rt; desk.ready(2), [true, true, false, false]);
     Ok(())
 }
@@ -363,6 +404,7 @@ fn the_state_is_told_in_order(rt: HostRuntime) -> Result<(), Fail> {
     let mut desk = image(rt.alloc())?;
     assert_eq!(rt; desk.enter(b"d"), 0);
     assert_eq!(rt; desk.limit_stack(), 0);
+    assert_eq!(rt; desk.send_blocked(), 0);
     assert_eq!(rt; desk.open(b"/f", 0), 0);
     assert_eq!(rt; desk.dup(0), 1);
     assert!(rt; desk.tells(&OPEN_STATE));
@@ -372,8 +414,11 @@ fn the_state_is_told_in_order(rt: HostRuntime) -> Result<(), Fail> {
 }
 
 /// The numbers: of the real clock, of inodes, of positions in a directory, of descriptors and of open files.
-const OPEN_STATE: [(&'static str, u64); 12] = [
+const OPEN_STATE: [(&'static str, u64); 15] = [
     ("clock", 5),
+    ("timer", 1_000_000_006),
+    ("mask", 0x200),
+    ("pending", 10),
     ("limit", 3),
     ("cwd", 6),
     ("node", 2),
@@ -387,10 +432,12 @@ const OPEN_STATE: [(&'static str, u64); 12] = [
     ("open", 1),
 ];
 
-/// It has no descriptor and no open file.
-const ENDED_STATE: [(&'static str, u64); 10] = [
+/// It has no timer, no descriptor and no open file.
+const ENDED_STATE: [(&'static str, u64); 12] = [
     ("clock", 5),
     ("ended", 0),
+    ("mask", 0x200),
+    ("pending", 10),
     ("limit", 3),
     ("cwd", 6),
     ("node", 2),

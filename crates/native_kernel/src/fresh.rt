@@ -5,9 +5,10 @@ ghost use Rattle.native_kernel.specs.Limits.{starting_limits};
 ghost use Rattle.native_kernel.specs.Operations.{started, with_clocks, with_owner, with_usage};
 
 use crate::limits::{FEW_OPEN_FILES, OPEN_FILES, UNLIMITED};
-use crate::state::{Clocks, Identity, Kernel, Limits, Process};
+use crate::state::{Identity, Kernel, Limits, Process};
 use file_store::Files;
 use kernel_values::{Credentials, OutOfMemory, Usage};
+use signal_clock::{Clocks, Signals};
 use std::alloc::Global;
 
 impl Limits {
@@ -38,24 +39,22 @@ impl Kernel {
                 privileged: identity.privileged,
                 usage: identity.usage,
             },
-            clocks: Clocks {
-                real: identity.real,
-                monotonic: identity.monotonic,
-            },
+            clocks: Clocks::new(identity.real, identity.monotonic),
+            signals: Signals::new(alloc)?,
             limits: Limits::starting(),
             files: Files::new(alloc)?,
             ended: None,
         })
     }
 
-    /// Sets both clocks, in nanoseconds, as the image says.
+    /// Sets both clocks, in nanoseconds, as the image says. No timer is armed.
     #[tactic(auto, unfolding(crate::specs::Operations::with_clocks))]
     pub fn start_clocks(&mut self, real: u64, monotonic: u64)
         requires real_in_range { real < 2 ^ 62 }
         requires monotonic_in_range { monotonic < 2 ^ 62 }
         ensures { self.new ≡ with_clocks self.old real monotonic }
     {
-        self.clocks = Clocks { real, monotonic };
+        self.clocks = Clocks::new(real, monotonic);
     }
 
     /// Sets whose process it is, and whether it has the privilege, as the image says. What it has used stays.

@@ -9,6 +9,7 @@ use crate::limits::starting_limit;
 use crate::state::Kernel;
 use file_store::FileCursor;
 use kernel_values::{ClockItem, Limit, LimitItem, OutOfMemory, StateItem};
+use signal_clock::SignalCursor;
 use std::alloc::Global;
 
 /// Where the telling of a state is: a part of it, and a place in that part.
@@ -18,6 +19,8 @@ pub enum StateCursor {
     Clocks,
     /// At how the process ended.
     Ended,
+    /// At the timer and signals, with all that `SignalCursor` tells.
+    Signals(SignalCursor),
     /// At the limits from a number on.
     Limits(u32),
     /// At files, with all that `FileCursor` tells.
@@ -84,12 +87,25 @@ impl Kernel {
     }
 
     #[tactic(auto, unfolding(crate::specs::Items::left))]
+    fn signal_item(&self, alloc: Global, cursor: SignalCursor) -> Result<Told, OutOfMemory>
+        ensures { IfOk result (λ told. TellsFirst (left self.now) (StateCursor.Signals cursor) told) }
+    {
+        match self.signals.item(&self.clocks, cursor) {
+            Some((item, next)) => Ok(Some((item, StateCursor::Signals(next)))),
+            None => self.limit_item(alloc, 0),
+        }
+    }
+
+    #[tactic(auto, unfolding(crate::specs::Items::left))]
     fn ended_item(&self, alloc: Global) -> Result<Told, OutOfMemory>
         ensures { IfOk result (λ told. TellsFirst (left self.now) StateCursor.Ended told) }
     {
         match self.ended {
-            Some(end) => Ok(Some((StateItem::Ended(end), StateCursor::Limits(0)))),
-            None => self.limit_item(alloc, 0),
+            Some(end) => {
+                let next = StateCursor::Signals(SignalCursor::Timer);
+                Ok(Some((StateItem::Ended(end), next)))
+            }
+            None => self.signal_item(alloc, SignalCursor::Timer),
         }
     }
 
@@ -97,7 +113,7 @@ impl Kernel {
     fn clock_item(&self) -> Told
         ensures { TellsFirst (left self.now) StateCursor.Clocks result }
     {
-        let (real, monotonic) = (self.clocks.real, self.clocks.monotonic);
+        let (real, monotonic) = (self.clocks.real(), self.clocks.monotonic());
         let item = StateItem::Clock(ClockItem { real, monotonic });
         Some((item, StateCursor::Ended))
     }
@@ -108,6 +124,7 @@ impl Kernel {
         match cursor {
             StateCursor::Clocks => Ok(self.clock_item()),
             StateCursor::Ended => self.ended_item(alloc),
+            StateCursor::Signals(cursor) => self.signal_item(alloc, cursor),
             StateCursor::Limits(first) => self.limit_item(alloc, first),
             StateCursor::Files(cursor) => self.file_item(alloc, cursor),
         }

@@ -1,19 +1,21 @@
 //! The modelled kernel: its state, and one call for each operation.
 #![tactic(auto)]
 
-mod clocks;
 mod fresh;
 mod items;
 mod limits;
 mod operations;
 mod state;
 
-pub use clocks::{CLOCK_END, CLOCK_MONOTONIC, CLOCK_REALTIME, ClockId};
 pub use file_store::Place;
 pub use items::StateCursor;
 pub use limits::{MOST_OPEN_FILES, OPEN_FILES};
 pub use open_files::Ready;
-pub use state::{Clocks, Identity, Kernel, Limits, Process, Slept};
+pub use signal_clock::{
+    CLOCK_END, CLOCK_MONOTONIC, CLOCK_REALTIME, ClockId, Clocks, Signals, Slept, Taken, Timer,
+    has_flag, is_on, stack_flags,
+};
+pub use state::{Identity, Kernel, Limits, Process};
 
 #[cfg(test)]
 mod file_tests;

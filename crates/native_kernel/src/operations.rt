@@ -10,4 +10,6 @@ mod locks;
 mod pipes;
 mod readiness;
 mod sending;
+mod signals;
 mod status;
+mod timers;

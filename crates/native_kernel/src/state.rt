@@ -1,11 +1,11 @@
 //! The types of the state alone, so that the definitions may name them.
 
-ghost use Rattle.std.specs.Prelude.{◌<◌, ◌^◌, slice_get};
-ghost use Rattle.native_kernel.specs.ClockState.{ClockState};
+ghost use Rattle.std.specs.Prelude.{slice_get};
 ghost use Rattle.native_kernel.specs.LimitState.{AllowsFew, LimitState};
 
 use file_store::Files;
-use kernel_values::{End, Limit, TimeSpec, Usage};
+use kernel_values::{End, Limit, Usage};
+use signal_clock::{Clocks, Signals};
 use std::marker::Model;
 
 /// What a new process and its kernel are made of.
@@ -34,30 +34,6 @@ pub struct Process {
     pub usage: Usage,
 }
 
-/// How a sleep ended.
-#[derive(Clone, Copy, Debug, PartialEq, Eq)]
-pub enum Slept {
-    /// After its whole time.
-    Whole,
-    /// Cut by a signal, with what was left of its time.
-    Cut { rest: TimeSpec },
-}
-
-/// The two clocks, in nanoseconds.
-#[derive(Debug, Drop)]
-pub struct Clocks {
-    pub(crate) real: u64,
-    pub(crate) monotonic: u64,
-}
-
-impl Model for Clocks {
-    ghost Value = { ClockState };
-
-    ghost view = { λ c. record { real = c.real; monotonic = c.monotonic } };
-
-    ghost invariant = { λ c. (c.real < 2 ^ 62) × (c.monotonic < 2 ^ 62) };
-}
-
 /// The sixteen limits of a process, by the numbers of `include/uapi/asm-generic/resource.h`. That of descriptors is never
 /// above 2^20.
 #[derive(Debug, Drop)]
@@ -78,7 +54,10 @@ impl Model for Limits {
 #[derive(Debug, Drop)]
 pub struct Kernel {
     pub(crate) process: Process,
+    /// Both clocks and the interval timer.
     pub(crate) clocks: Clocks,
+    /// Which signals are blocked, what they do, and which wait.
+    pub signals: Signals,
     pub(crate) limits: Limits,
     /// Files, directories, pipes, locks, open files and descriptors.
     pub(crate) files: Files,

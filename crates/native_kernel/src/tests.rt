@@ -3,7 +3,8 @@
 
 use crate::{Identity, Kernel, Slept};
 use kernel_values::{
-    Answer, Credentials, End, Errno, KernelFault, Limit, OutOfMemory, TimeSpec, Usage,
+    Action, AltStack, Answer, Credentials, End, Errno, KernelFault, Limit, OutOfMemory, SigInfo,
+    SignalSet, TimeSpec, TimeVal, TimerValue, Usage,
 };
 use std::alloc::Global;
 use std::fmt::Debug;
@@ -94,6 +95,89 @@ fn set_limit(kernel: &mut Kernel, resource: u32, soft: u64, hard: u64) -> Answer
 
 fn usage(kernel: &Kernel, who: i64) -> Result<Usage, Errno> {
     kernel.usage(who)
+}
+
+/// Sets the timer to seconds, and tells the seconds that were left.
+fn set_timer(kernel: &mut Kernel, which: i64, seconds: i64) -> Answer<i64> {
+    let value = TimerValue {
+        interval: TimeVal {
+            seconds: 0,
+            micros: 0,
+        },
+        value: TimeVal { seconds, micros: 0 },
+    };
+    let before = kernel.set_timer(which, &value);
+    before.map(|timer| timer.value.seconds)
+}
+
+fn timer(kernel: &Kernel, which: i64) -> Result<i64, Errno> {
+    kernel.timer(which).map(|timer| timer.value.seconds)
+}
+
+fn info(signal: u32, code: i32) -> SigInfo {
+    SigInfo {
+        signal,
+        errno: 0,
+        code,
+        pid: 5,
+        uid: 6,
+        value: 4,
+    }
+}
+
+/// Posts SIGUSR1, 10.
+fn post(kernel: &mut Kernel) {
+    kernel.post(&SigInfo {
+        signal: 10,
+        ..info(0, 0)
+    });
+}
+
+fn kill(kernel: &mut Kernel, pid: i64, signal: i64) -> Answer<()> {
+    kernel.kill(pid, signal)
+}
+
+fn queue(kernel: &mut Kernel, pid: i64, signal: i64, code: i32) -> Answer<()> {
+    kernel.queue(pid, signal, &info(0, code))
+}
+
+/// Gives a signal a handler, and tells the one before it.
+fn handle(kernel: &mut Kernel, signal: i64) -> Answer<u32> {
+    let action = Action {
+        handler: 0x8000,
+        flags: 0,
+        restorer: 0,
+        mask: SignalSet { bits: 1 },
+    };
+    let before = kernel.action(signal, Some(action));
+    before.map(|action| action.handler)
+}
+
+fn block(kernel: &mut Kernel, bits: u64) -> Answer<u64> {
+    let set = Some(SignalSet { bits });
+    kernel.mask(0, set, false).map(|set| set.bits)
+}
+
+/// The bits of the signals that wait and are blocked.
+fn pending(kernel: &Kernel) -> u64 {
+    kernel.pending().bits
+}
+
+fn unblock_all(kernel: &mut Kernel) {
+    kernel.set_mask(SignalSet { bits: 0 });
+}
+
+/// The size of the alternate stack before a new one of this size.
+fn set_stack(kernel: &mut Kernel, sp: u32, size: u32) -> Answer<u32> {
+    let new = AltStack { base: 0x5000, size };
+    let before = kernel.alt_stack(sp, Some(new), 0);
+    before.map(|stack| stack.size)
+}
+
+/// What is told of the next signal, and the mask before it.
+fn next(kernel: &mut Kernel) -> Option<(SigInfo, u64)> {
+    let taken = kernel.next_signal()?;
+    Some((taken.info, taken.mask_before.bits))
 }
 
 /// How the process has ended, before and after it does.
@@ -213,5 +297,61 @@ fn usage_and_end(rt: HostRuntime) -> Result<(), Fail> {
         same(&rt, usage(&kernel, who), told);
     }
     same(&rt, ends(&mut kernel), [None, Some(End::Exit(3))]);
+    Ok(())
+}
+
+#[test]
+fn signals_wait_and_are_taken(rt: HostRuntime) -> Result<(), Fail> {
+    let mut kernel = kernel(rt.alloc())?;
+    let own = SigInfo {
+        pid: 7,
+        uid: 8,
+        value: 0,
+        ..info(12, 0)
+    };
+    same(&rt, block(&mut kernel, 0x200), Ok(0));
+    same(&rt, handle(&mut kernel, 12), Ok(0));
+    post(&mut kernel);
+    same(&rt, kill(&mut kernel, 0, 12), Ok(()));
+    same(&rt, queue(&mut kernel, 7, 12, -1), Ok(()));
+    same(&rt, pending(&kernel), 0x200);
+    same(&rt, next(&mut kernel), Some((own, 0x200)));
+    // The mask gains that of the action, and its own signal.
+    same(&rt, block(&mut kernel, 0), Ok(0xa01));
+    unblock_all(&mut kernel);
+    same(&rt, next(&mut kernel), Some((info(10, 0), 0)));
+    same(&rt, next(&mut kernel), None);
+    Ok(())
+}
+
+#[test]
+fn signal_calls_are_refused(rt: HostRuntime) -> Result<(), Fail> {
+    let mut kernel = kernel(rt.alloc())?;
+    let no_process = KernelFault::Errno(Errno::NoProcess);
+    same(&rt, kill(&mut kernel, 8, 12), Err(no_process));
+    same(&rt, queue(&mut kernel, 8, 12, 0), Err(NOT_PERMITTED));
+    same(&rt, handle(&mut kernel, 9), Err(INVALID));
+    same(&rt, set_stack(&mut kernel, 0, 2_048), Ok(0));
+    let on_it = set_stack(&mut kernel, 0x5001, 4_096);
+    same(&rt, on_it, Err(NOT_PERMITTED));
+    same(&rt, set_stack(&mut kernel, 0, 4_096), Ok(2_048));
+    Ok(())
+}
+
+#[test]
+fn the_timer_fires_and_stops(rt: HostRuntime) -> Result<(), Fail> {
+    let mut kernel = kernel(rt.alloc())?;
+    same(&rt, set_timer(&mut kernel, 1, 2), Err(INVALID));
+    same(&rt, set_timer(&mut kernel, 0, 2), Ok(0));
+    let rest = time(1, 0);
+    let slept = sleep(&mut kernel, 1, false, time(3, 0));
+    same(&rt, slept, Ok(Slept::Cut { rest }));
+    same(&rt, clocks(&kernel), both(2_000_000_005, 2_000_000_006));
+    same(&rt, set_timer(&mut kernel, 0, 5), Ok(0));
+    same(&rt, timer(&kernel, 0), Ok(5));
+    same(&rt, ends(&mut kernel), [None, Some(End::Exit(3))]);
+    same(&rt, timer(&kernel, 0), Ok(0));
+    // SIGALRM waits, and an ended process takes none.
+    same(&rt, next(&mut kernel), None);
     Ok(())
 }

@@ -80,7 +80,9 @@ impl Desk {
         let told = [self.writes(size.into()), self.writes(size.into())];
         let read = self.reads(size.into(), size.into(), true);
         let rest = self.pipes.waiting(INODE).saturating_sub(before);
-        told == written && read == i64::from(size) && (rest == 0 || self.reads(rest, rest, true) > 0)
+        told == written
+            && read == i64::from(size)
+            && (rest == 0 || self.reads(rest, rest, true) > 0)
     }
 
     fn gives(&mut self, wanted: u64, expected: &[u8]) -> bool {

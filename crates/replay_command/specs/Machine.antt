@@ -3,6 +3,7 @@ use Rattle.std.specs.Prelude.{◌≡◌, ℕ, ◌+◌, ◌/◌, ◌||◌, nat_le
 use Rattle.kernel_values.specs.declared.abi.AbiKind.{AbiKind}
 use Rattle.kernel_values.specs.declared.abi.AbiKind.TheVariants.{Ia32}
 use Rattle.kernel_values.specs.declared.identity.Credentials.{Credentials}
+use Rattle.kernel_values.specs.declared.signals.SigInfo.{SigInfo}
 use Rattle.kernel_values.specs.declared.times.Usage.{Usage}
 use Rattle.user_memory.specs.Pages.{PageState, page_at, is_page, with_page, marked}
 use Rattle.user_memory.specs.Memory.{is_readable, with_bytes}
@@ -13,7 +14,7 @@ use Rattle.kernel_values.specs.declared.process_end.End.{End}
 use Rattle.native_kernel.specs.declared.state.Identity.{Identity}
 use Rattle.native_kernel.specs.declared.state.Kernel.{Kernel}
 use Rattle.native_kernel.specs.Usages.{nothing_used}
-use Rattle.native_kernel.specs.Operations.{advanced, end_of, image_bytes, image_directory, image_file, image_lock, with_clocks, with_owner, with_usage}
+use Rattle.native_kernel.specs.Operations.{advanced, end_of, image_bytes, image_directory, image_file, image_lock, posted, with_clocks, with_owner, with_usage}
 use Rattle.call_tables.specs.Rows.{CallRow, row}
 use Rattle.compat_calls.specs.World.{started_world}
 use Rattle.compat_calls.specs.Trap.{Trapped, trapped}
@@ -60,6 +61,15 @@ with_kernel m k = record m { world = record m.world { kernel = k } }
 -- both clocks move, also after the end of the process
 unfoldable pub advance : Machine → ℕ → Machine
 advance m nanos = with_kernel m (advanced m.world.kernel nanos)
+
+-- a process that has ended gets no signal
+abbrev pub post_where : Machine → SigInfo → Option End → Machine
+post_where m info None = with_kernel m (posted m.world.kernel info)
+post_where m info (Some end) = m
+
+-- a signal that another process sends; it waits until a call was served, and nothing is told of it where it is lost
+unfoldable pub post : Machine → SigInfo → Machine
+post m info = post_where m info (end_of m.world.kernel)
 
 unfoldable pub set_clock : Machine → ℕ → ℕ → Machine
 set_clock m real monotonic = with_kernel m (with_clocks m.world.kernel real monotonic)
@@ -128,6 +138,7 @@ applied m (lines.Lock path write start count pid) = silent (set_lock m path writ
 applied m (lines.Poke at bytes) = silent (poke m at bytes)
 applied m (lines.Call registers) = call m registers
 applied m (lines.Advance nanos) = silent (advance m nanos)
+applied m (lines.Post info) = silent (post m info)
 applied m lines.Show = record { machine = m; text = state_text m.kind m.world }
 
 -- whose process it is where a script doesn't say

@@ -6,7 +6,7 @@ use crate::report::{put_called, put_changes};
 use crate::state::put_state;
 use abi_registers::Registers;
 use compat_calls::{World, trap_by_kind};
-use kernel_values::{AbiKind, Credentials, KernelFault, OutOfMemory, Usage};
+use kernel_values::{AbiKind, Credentials, KernelFault, OutOfMemory, SigInfo, Usage};
 use native_kernel::Identity;
 use report_text::{put_end, put_gone};
 use script_reader::Record;
@@ -36,7 +36,7 @@ pub struct Machine {
 
 impl Machine {
     ghost use Rattle.script_reader.specs.Grammar.{line_of, IsInRange};
-    ghost use Rattle.replay_command.specs.Machine.{Did, advance, applied, call, poke, set_bytes, set_clock, set_directory, set_file, set_kind, set_lock, set_page, set_restorer, set_usage, set_who, silent, start};
+    ghost use Rattle.replay_command.specs.Machine.{Did, advance, applied, call, poke, post, set_bytes, set_clock, set_directory, set_file, set_kind, set_lock, set_page, set_restorer, set_usage, set_who, silent, start};
 
     /// At the start of a script.
     #[tactic(auto, unfolding(crate::specs::Machine::start))]
@@ -232,6 +232,19 @@ impl Machine {
         self.world.kernel.advance(nanos);
     }
 
+    /// A signal that another process sends. A process that has ended gets none.
+    #[tactic(auto, unfolding(crate::specs::Machine::post))]
+    fn post(&mut self, info: &SigInfo)
+        requires low { 1 ≤ info.now.signal }
+        requires high { info.now.signal ≤ 64 }
+        ensures machine { self.new ≡ post self.old info.now }
+        ensures calls { self.new.calls ≡ self.old.calls }
+    {
+        if self.world.kernel.ended().is_none() {
+            self.world.kernel.post(info);
+        }
+    }
+
     /// What a record does.
     pub fn apply(
         &mut self,
@@ -277,6 +290,7 @@ impl Machine {
             Record::Poke { at, bytes } => self.poke(at, &bytes),
             Record::Call { registers } => self.call(alloc, out, &registers)?,
             Record::Advance { nanos } => self.advance(nanos),
+            Record::Post { info } => self.post(&info),
             Record::Show => put_state(alloc, out, self.kind, &self.world)?,
         }
         Ok(())

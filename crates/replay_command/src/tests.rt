@@ -317,3 +317,14 @@ fn files_of_the_image_are_there(rt: HostRuntime) -> Result<(), Fail> {
         b"call 1 open 00000000 00001000 00000002 00000000 00000000 00000000 00000000 00000000 00000000 00000000\ncall 2 fcntl fffffff5 00000000 00000006 00002000 00000000 00000000 00000000 00000000 00000000 00000000\ncall 3 fcntl 00000000 00000000 00000006 00002000 00000000 00000000 00000000 00000000 00000000 00000000\nstate\nclock 0 0\npeak 0\nnode 2 d 0 41ed 0 0 0.0 0.0 0.0\nname 2 3 5 64\nnode 5 d 0 41ed 0 0 0.0 0.0 0.0\nname 5 3 7 66\nnode 7 f 4 81a4 0 0 0.0 0.0 0.0\nbytes 7 1 6263\nlock 7 r 2 3\nfd 0 1 0\nopen 1 file 2 0 7\nend\n";
     runs(&rt, rt.alloc(), script, report)
 }
+
+/// A posted signal is delivered behind the next call, and none is posted after the end.
+#[test]
+fn a_posted_signal_ends_the_process(rt: HostRuntime) -> Result<(), Fail> {
+    runs(
+        &rt,
+        rt.alloc(),
+        b"abi ia32 1\npost a 1 2\nshow\ncall 14 0 0 0 0 0 0 0 0 0\nqueue c 1 2 3\nadvance 5\n",
+        b"state\nclock 0 0\npeak 0\npending a 0 0 1 2 0\nnode 2 d 0 41ed 0 0 0.0 0.0 0.0\ncall 1 getpid 000003e8 00000000 00000000 00000000 00000000 00000000 00000000 00000000 00000000 00000000\nkilled a\nstate\nclock 5 5\nended signal a\npeak 0\nnode 2 d 0 41ed 0 0 0.0 0.0 0.0\nend\n",
+    )
+}

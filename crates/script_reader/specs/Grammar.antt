@@ -1,11 +1,12 @@
 -- The lines of a script: the header, and what each other line says by itself.
-use Rattle.std.specs.Prelude.{◌≡◌, ◌<◌, ◌≤◌, ⊤, ℕ, ◌+◌, ◌%◌, ◌^◌, ◌==◌, ◌&&◌, nat_le, if◌then◌else◌, Bool, true, false, List, [], length, count_by, codes, Option, Some, None, Result, Ok, Err}
+use Rattle.std.specs.Prelude.{◌≡◌, ◌<◌, ◌≤◌, ⊤, ℕ, pos, negsuc, ◌+◌, ◌%◌, ◌^◌, ◌==◌, ◌&&◌, nat_le, if◌then◌else◌, Bool, true, false, List, [], length, count_by, codes, Option, Some, None, Result, Ok, Err}
 use Rattle.std.specs.Option.{unwrap_or, ok_or}
 use Rattle.abi_registers.specs.declared.registers.Registers.{Registers}
 use Rattle.abi_registers.specs.declared.registers.Registers.TheVariants.{Ia32, Arm}
 use Rattle.kernel_values.specs.declared.abi.AbiKind.{AbiKind}
 use Rattle.kernel_values.specs.declared.abi.AbiKind.TheVariants as abi
 use Rattle.kernel_values.specs.declared.identity.Credentials.{Credentials}
+use Rattle.kernel_values.specs.declared.signals.SigInfo.{SigInfo}
 use Rattle.kernel_values.specs.declared.times.Usage as times
 use Rattle.script_reader.specs.declared.fault.LineCause.{LineCause}
 use Rattle.script_reader.specs.declared.fault.LineCause.TheVariants as causes
@@ -32,6 +33,7 @@ pub data Line : Type 0 where
   Poke : (at : ℕ) (bytes : List ℕ) → Line
   Call : (registers : Registers) → Line
   Advance : (nanos : ℕ) → Line
+  Post : (info : SigInfo) → Line
   Show : Line
 
 -- a record without where its bytes lie in memory
@@ -49,6 +51,7 @@ line_of (records.Lock path write start count pid) = Lock path write start count 
 line_of (records.Poke at bytes) = Poke at bytes.items
 line_of (records.Call registers) = Call registers
 line_of (records.Advance nanos) = Advance nanos
+line_of (records.Post info) = Post info
 line_of records.Show = Show
 
 -- two clocks
@@ -170,6 +173,29 @@ call_line kind rest = registers_in kind rest >>= λ registers. Some (Call regist
 unfoldable pub advance_line : List ℕ → Option Line
 advance_line rest = clock rest >>= λ nanos. Some (Advance nanos)
 
+-- the number of a signal
+abbrev pub signal_of : List ℕ → Option ℕ
+signal_of cs = number cs >>= λ n. if nat_le 1 n && nat_le n 64 then Some n else None
+
+-- a signal with the code 0, the process that sends it and its user
+unfoldable pub post_line : List ℕ → Option Line
+post_line rest =
+    three_fields rest >>= λ f.
+    signal_of f.0 >>= λ signal.
+    word f.1 >>= λ pid.
+    word f.2 >>= λ uid.
+    Some (Post (record { signal = signal; errno = pos 0; code = pos 0; pid = pid; uid = uid; value = 0 }))
+
+-- the same with the code -1, and a value
+unfoldable pub queue_line : List ℕ → Option Line
+queue_line rest =
+    four_fields rest >>= λ f.
+    signal_of f.0 >>= λ signal.
+    word f.1 >>= λ pid.
+    word f.2 >>= λ uid.
+    word f.3 >>= λ value.
+    Some (Post (record { signal = signal; errno = pos 0; code = negsuc 0; pid = pid; uid = uid; value = value }))
+
 -- the ABI that a header names
 unfoldable pub abi_of : List ℕ → Option AbiKind
 abi_of line = if same line (codes "abi ia32 1") then Some abi.Ia32 else (if same line (codes "abi arm 1") then Some abi.ArmEabi else None)
@@ -190,7 +216,9 @@ keyword_of name =
     else (if same name (codes "usage") then Some keywords.Usage
     else (if same name (codes "restorer") then Some keywords.Restorer
     else (if same name (codes "show") then Some keywords.Show
-    else None))))))))))))
+    else (if same name (codes "post") then Some keywords.Post
+    else (if same name (codes "queue") then Some keywords.Queue
+    else None))))))))))))))
 
 -- how many fields a line has, its first one among them
 abbrev pub fields_of : AbiKind → Keyword → ℕ
@@ -207,6 +235,8 @@ fields_of kind keywords.Poke = 3
 fields_of abi.Ia32 keywords.Call = 11
 fields_of abi.ArmEabi keywords.Call = 18
 fields_of kind keywords.Advance = 2
+fields_of kind keywords.Post = 4
+fields_of kind keywords.Queue = 5
 fields_of kind keywords.Show = 1
 
 -- fields have one space between them
@@ -227,6 +257,8 @@ line_about kind keywords.Lock rest = lock_line rest
 line_about kind keywords.Poke rest = poke_line rest
 line_about kind keywords.Call rest = call_line kind rest
 line_about kind keywords.Advance rest = advance_line rest
+line_about kind keywords.Post rest = post_line rest
+line_about kind keywords.Queue rest = queue_line rest
 line_about kind keywords.Show rest = Some Show
 
 -- the fields are as many as the line has, and each is of its spelling and range
@@ -246,7 +278,8 @@ abbrev pub said_by : Said → Result Line LineCause
 said_by (answers.Record r) = Ok (line_of r)
 said_by (answers.Bad cause) = Err cause
 
--- clocks are below their end; a page stands at a multiple of its size, and has no more bytes; a file has at most 2^40
+-- clocks are below their end; a page stands at a multiple of its size, and has no more bytes; a file has at most 2^40;
+-- a signal is 1 to 64
 abbrev pub IsInRange : Line → Type 0
 IsInRange (Header kind) = ⊤
 IsInRange (Clock real monotonic) = (real < 2 ^ 62) × (monotonic < 2 ^ 62)
@@ -261,4 +294,5 @@ IsInRange (Lock path write start count pid) = ⊤
 IsInRange (Poke at bytes) = ⊤
 IsInRange (Call registers) = ⊤
 IsInRange (Advance nanos) = nanos < 2 ^ 62
+IsInRange (Post info) = (1 ≤ info.signal) × (info.signal ≤ 64)
 IsInRange Show = ⊤

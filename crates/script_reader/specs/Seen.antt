@@ -9,7 +9,7 @@ use Rattle.script_reader.specs.declared.fault.LineCause.TheVariants as causes
 use Rattle.script_reader.specs.declared.seen.Seen.{Seen}
 use Rattle.script_reader.specs.declared.seen.Told as answer
 use Rattle.script_reader.specs.declared.seen.Told.TheVariants as answers
-use Rattle.script_reader.specs.Grammar.{Line, Header, Clock, Who, Usage, Restorer, Page, Dir, File, Bytes, Lock, Poke, Call, Advance, Show, IsInRange, abi_of, read_line, line_of}
+use Rattle.script_reader.specs.Grammar.{Line, Header, Clock, Who, Usage, Restorer, Page, Dir, File, Bytes, Lock, Poke, Call, Advance, Post, Show, IsInRange, abi_of, read_line, line_of}
 
 abbrev pub new_seen : Seen
 new_seen = record { lines = 0; abi = None; clock = false; who = false; usage = false; restorer = false; begun = false; pages = record { keys = [] }; files = fresh_tree }
@@ -49,6 +49,7 @@ misplaced s (Lock path write start count pid) = image_fault s (not (has_bytes s.
 misplaced s (Poke at bytes) = if is_covered s.pages at (length bytes) then None else Some causes.Image
 misplaced s (Call registers) = None
 misplaced s (Advance nanos) = None
+misplaced s (Post info) = None
 misplaced s Show = None
 
 -- what has been seen with a line that may stand there
@@ -66,6 +67,7 @@ seen_with s (Lock path write start count pid) = s
 seen_with s (Poke at bytes) = s
 seen_with s (Call registers) = record s { begun = true }
 seen_with s (Advance nanos) = record s { begun = true }
+seen_with s (Post info) = record s { begun = true }
 seen_with s Show = record s { begun = true }
 
 abbrev pub counted : Seen → Seen

@@ -1,9 +1,9 @@
 //! What each line of a script says by itself: the header, `clock`, `who`, `usage`, `restorer`, `page`, `dir`, `file`,
-//! `data`, `lock`, `poke`, `call`, `advance` and `show`.
+//! `data`, `lock`, `poke`, `call`, `advance`, `post`, `queue` and `show`.
 
 ghost use Rattle.std.specs.Prelude.{◌≡◌, ◌^◌, ◌<◌, ◌≤◌, [], length, IfOk, IfSome};
 ghost use Rattle.std.specs.Option.{option_map, unwrap_or};
-ghost use Rattle.script_reader.specs.Grammar.{line_of, IsInRange, abi_of, pid_of, privilege_of, rights_of, clock_line, who_line, usage_line, restorer_line, page_line, dir_line, file_line, bytes_line, holder_of, lock_kind_of, lock_line, poke_line, registers_in, call_line, advance_line, keyword_of, fields_of, field_count, line_about, said_by, read_line};
+ghost use Rattle.script_reader.specs.Grammar.{line_of, IsInRange, abi_of, pid_of, privilege_of, rights_of, clock_line, who_line, usage_line, restorer_line, page_line, dir_line, file_line, bytes_line, holder_of, lock_kind_of, lock_line, poke_line, registers_in, call_line, advance_line, signal_of, post_line, queue_line, keyword_of, fields_of, field_count, line_about, said_by, read_line};
 
 use crate::fault::LineCause;
 use crate::fields::{
@@ -12,7 +12,7 @@ use crate::fields::{
 };
 use crate::record::Record;
 use abi_registers::Registers;
-use kernel_values::{AbiKind, ByteList, Credentials, OutOfMemory, Usage};
+use kernel_values::{AbiKind, ByteList, Credentials, OutOfMemory, SigInfo, Usage};
 use std::alloc::Global;
 
 /// What a line says by itself.
@@ -38,6 +38,8 @@ pub enum Keyword {
     Poke,
     Call,
     Advance,
+    Post,
+    Queue,
     Show,
 }
 
@@ -325,6 +327,60 @@ fn advance_of(rest: &[u8]) -> Option<Record>
     Some(Record::Advance { nanos })
 }
 
+/// The number of a signal: 1 to 64.
+fn signal_in(field: &[u8]) -> Option<u32>
+    ensures is { result ≡ signal_of field.now }
+    ensures range { IfSome result (λ n. (1 ≤ n) × (n ≤ 64)) }
+{
+    let n = number_in(field)?;
+    if 1 <= n && n <= 64 {
+        Some(n as u32)
+    } else {
+        None
+    }
+}
+
+#[tactic(auto, unfolding(crate::specs::Grammar::post_line))]
+fn post_of(rest: &[u8]) -> Option<Record>
+    ensures line { option_map line_of result ≡ post_line rest.now }
+    ensures range { IfSome result (λ x. IsInRange (line_of x)) }
+{
+    let (first, second, third) = three_fields(rest)?;
+    let signal = signal_in(first)?;
+    let pid = word_in(second)?;
+    let uid = word_in(third)?;
+    let info = SigInfo {
+        signal,
+        errno: 0,
+        code: 0,
+        pid,
+        uid,
+        value: 0,
+    };
+    Some(Record::Post { info })
+}
+
+#[tactic(auto, unfolding(crate::specs::Grammar::queue_line))]
+fn queue_of(rest: &[u8]) -> Option<Record>
+    ensures line { option_map line_of result ≡ queue_line rest.now }
+    ensures range { IfSome result (λ x. IsInRange (line_of x)) }
+{
+    let (first, second, third, fourth) = four_fields(rest)?;
+    let signal = signal_in(first)?;
+    let pid = word_in(second)?;
+    let uid = word_in(third)?;
+    let value = word_in(fourth)?;
+    let info = SigInfo {
+        signal,
+        errno: 0,
+        code: -1,
+        pid,
+        uid,
+        value: u64::from(value),
+    };
+    Some(Record::Post { info })
+}
+
 /// What a line is about, by its first field.
 #[tactic(auto, unfolding(crate::specs::Grammar::keyword_of))]
 fn keyword_in(name: &[u8]) -> Option<Keyword>
@@ -369,6 +425,12 @@ fn keyword_in(name: &[u8]) -> Option<Keyword>
     if is_same(name, b"show") {
         return Some(Keyword::Show);
     }
+    if is_same(name, b"post") {
+        return Some(Keyword::Post);
+    }
+    if is_same(name, b"queue") {
+        return Some(Keyword::Queue);
+    }
     None
 }
 
@@ -392,6 +454,8 @@ fn fields_of(abi: AbiKind, keyword: Keyword) -> usize
             AbiKind::ArmEabi => 18,
         },
         Keyword::Advance => 2,
+        Keyword::Post => 4,
+        Keyword::Queue => 5,
         Keyword::Show => 1,
     }
 }
@@ -420,6 +484,8 @@ fn record_about(
         Keyword::Poke => poke_of(alloc, rest),
         Keyword::Call => Ok(call_of(abi, rest)),
         Keyword::Advance => Ok(advance_of(rest)),
+        Keyword::Post => Ok(post_of(rest)),
+        Keyword::Queue => Ok(queue_of(rest)),
         Keyword::Show => Ok(Some(Record::Show)),
     }
 }

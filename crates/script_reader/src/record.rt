@@ -1,7 +1,7 @@
 //! What a line of a script says.
 
 use abi_registers::Registers;
-use kernel_values::{AbiKind, ByteList, Credentials, PathText, Usage};
+use kernel_values::{AbiKind, ByteList, Credentials, PathText, SigInfo, Usage};
 
 /// What a line says that isn't passed over.
 #[derive(Drop)]
@@ -73,6 +73,11 @@ pub enum Record {
     /// Nanoseconds that pass on both clocks, below 2^62.
     Advance {
         nanos: u64,
+    },
+    /// A signal that another process sends: its number is 1 to 64, its errno 0. Code and value are 0 where it is posted, and
+    /// where it is queued the code is -1.
+    Post {
+        info: SigInfo,
     },
     /// The state is to be written.
     Show,

@@ -76,7 +76,7 @@ pub struct Seen {
     pub who: bool,
     pub usage: bool,
     pub restorer: bool,
-    /// Whether there was an event: a call, an advance or a show.
+    /// Whether there was an event: a call, an advance, a signal or a show.
     pub begun: bool,
     /// The numbers of the pages that are mapped.
     pub pages: BTreeSet<u32>,
@@ -180,8 +180,11 @@ impl Seen {
                     Some(LineCause::Image)
                 }
             }
-            Record::Header { .. } | Record::Call { .. } | Record::Advance { .. } | Record::Show =>
-                None,
+            Record::Header { .. }
+            | Record::Call { .. }
+            | Record::Advance { .. }
+            | Record::Post { .. }
+            | Record::Show => None,
         }
     }
 
@@ -234,7 +237,8 @@ impl Seen {
                 self.see_file(alloc, path.as_slice(), *inode, *size)?;
             }
             Record::Bytes { .. } | Record::Lock { .. } | Record::Poke { .. } => {}
-            Record::Call { .. } | Record::Advance { .. } | Record::Show => self.begun = true,
+            Record::Call { .. } | Record::Advance { .. } | Record::Post { .. } | Record::Show =>
+                self.begun = true,
         }
         Ok(())
     }

@@ -1,7 +1,7 @@
 use super::*;
 use abi_registers::Registers;
 use io_edge::MemorySource;
-use kernel_values::Credentials;
+use kernel_values::{Credentials, SigInfo};
 use std::alloc::Global;
 use std::process::Abort;
 use std::test::Fail;
@@ -482,4 +482,47 @@ fn a_lock_stands_on_a_file_above_it(rt: HostRuntime) -> Result<(), Fail> {
             ),
         ],
     )
+}
+
+#[test]
+fn signals_are_events(rt: HostRuntime) -> Result<(), Fail> {
+    causes(
+        &rt,
+        rt.alloc(),
+        &[
+            (
+                b"post 1 0 0\nqueue 40 ffffffff 0 FFFFFFFF\npost 0000000000000040 3e8 0\n",
+                None,
+            ),
+            (b"post 0 0 0\n", Some(LineCause::Field)),
+            (b"post 41 0 0\n", Some(LineCause::Field)),
+            (b"queue 41 0 0 0\n", Some(LineCause::Field)),
+            (b"post 00000000000000001 0 0\n", Some(LineCause::Field)),
+            (b"post 1 100000000 0\n", Some(LineCause::Field)),
+            (b"queue 1 0 0 100000000\n", Some(LineCause::Field)),
+            (b"post 1 0\n", Some(LineCause::Count)),
+            (b"post 1 0 0 0\n", Some(LineCause::Count)),
+            (b"queue 1 0 0\n", Some(LineCause::Count)),
+            (b"post 1 0 0\nclock 0 0\n", Some(LineCause::Order)),
+            (b"show\nqueue 1 0 0 0\nrestorer 0\n", Some(LineCause::Order)),
+        ],
+    )
+}
+
+#[test]
+fn a_queued_signal_has_its_value(rt: HostRuntime) -> Result<(), Fail> {
+    let queued = record_of(rt.alloc(), b"abi arm 1\nqueue 22 1F 2 fffffffe\n").ok_or("queue")?;
+    let Record::Post { info } = queued else {
+        return Err("queue")?;
+    };
+    let wanted = SigInfo {
+        signal: 34,
+        errno: 0,
+        code: -1,
+        pid: 31,
+        uid: 2,
+        value: 4_294_967_294,
+    };
+    assert_eq!(rt; info, wanted);
+    Ok(())
 }

@@ -5,9 +5,9 @@ use kernel_values::StateItem;
 
 // A pipe alone, with its ends at 0 and 1.
 fn piped(alloc: Global) -> Answer<Desk> {
-    let mut files = Files::new(alloc)?;
-    files.pipe(alloc, LIMIT, 0)?;
-    Ok(Desk { files, alloc })
+    let mut desk = empty(alloc)?;
+    desk.pipe(LIMIT, 0);
+    Ok(desk)
 }
 
 impl Desk {

@@ -5,14 +5,19 @@ use super::*;
 // /f is open at 0 for reading and writing, with its bytes abc00, and /g, which is empty, at 1. A pipe has its ends at 2 and 3.
 fn opened(alloc: Global) -> Answer<Desk> {
     let mut desk = image(alloc)?;
-    desk.files.image_file(alloc, b"/g", 9, 0)?;
-    desk.open(b"/f", 2);
-    desk.open(b"/g", 0x8002);
-    desk.files.pipe(alloc, LIMIT, 0)?;
+    desk.open_ends()?;
     Ok(desk)
 }
 
 impl Desk {
+    fn open_ends(&mut self) -> Answer<()> {
+        self.add_file(b"/g", 9, 0)?;
+        self.open(b"/f", 2);
+        self.open(b"/g", 0x8002);
+        self.files.pipe(self.alloc, LIMIT, 0)?;
+        Ok(())
+    }
+
     fn sends(&mut self, target: i64, source: i64, place: Place, count: u64) -> i64 {
         let now = MAKER.time;
         told(

@@ -4,8 +4,9 @@ ghost use Rattle.std.specs.Prelude.{◌≡◌};
 ghost use Rattle.kernel_values.specs.Outcome.{GivesAlways, Tells};
 ghost use Rattle.native_kernel.specs.Operations.{advanced, clock, set_clock, sleep};
 
-use crate::state::{Kernel, Slept};
+use crate::state::Kernel;
 use kernel_values::{Answer, Errno, TimeSpec};
+use signal_clock::Slept;
 
 impl Kernel {
     /// The nanoseconds of a clock. EINVAL for a number other than 0 and 1. It takes no memory.
@@ -25,20 +26,21 @@ impl Kernel {
         self.clocks.set_clock(self.process.privileged, id, time)
     }
 
-    /// Lets time pass: both clocks move by these nanoseconds, and stop at 2^62 - 1.
+    /// Lets time pass: both clocks move by these nanoseconds, and stop at 2^62 - 1. Where they come to the timer's end, SIGALRM
+    /// is posted.
     #[tactic(auto, unfolding(crate::specs::Operations::advanced))]
     pub fn advance(&mut self, nanos: u64)
         ensures { self.new ≡ advanced self.old nanos }
     {
-        self.clocks.pass(u128::from(nanos));
+        self.clocks.advance(&mut self.signals, u128::from(nanos));
     }
 
-    /// Sleeps for a time, or up to a time of the clock named. EINVAL for a clock other than 0 and 1,
+    /// Sleeps for a time, or up to a time of the clock named, unless a signal cuts it. EINVAL for a clock other than 0 and 1,
     /// then for a bad time.
     #[tactic(auto, unfolding(crate::specs::Operations::sleep))]
     pub fn sleep(&mut self, id: i64, absolute: bool, time: &TimeSpec) -> Answer<Slept>
         ensures { GivesAlways (λ s. s) result self.new (sleep self.old id absolute time.now) }
     {
-        self.clocks.sleep(id, absolute, time)
+        self.clocks.sleep(&mut self.signals, id, absolute, time)
     }
 }

@@ -90,7 +90,7 @@ impl Kernel {
 
     /// Writes bytes: of the `wanted` ones as many as fit below the file's limit, or into the pipe, and as `piece` has.
     /// EBADF, also where it isn't open for writing; EISDIR; of a pipe ESPIPE for an offset, EPIPE where no end is open for
-    /// reading, and EAGAIN where they don't fit; EINVAL for an offset below 0; EFBIG; EFAULT where bytes could move and
+    /// reading, with SIGPIPE, and EAGAIN where they don't fit; EINVAL for an offset below 0; EFBIG; EFAULT where bytes could move and
     /// `piece` is empty.
     #[tactic(auto, unfolding(crate::specs::Operations::write))]
     pub fn write(
@@ -105,7 +105,9 @@ impl Kernel {
         ensures count { IfOk result (λ n. n ≤ wanted) }
     {
         let now = TimeSpec::of_nanoseconds(self.clocks.real());
-        self.files.write(alloc, now, fd, wanted, piece, place)
+        let answer = self.files.write(alloc, now, fd, wanted, piece, place);
+        self.signal_broken_pipe(&answer);
+        answer
     }
 
     /// Moves the position: whence 0 from the start, 1 from the position, 2 from the end. EBADF; ESPIPE for a pipe; EINVAL

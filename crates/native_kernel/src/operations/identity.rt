@@ -41,11 +41,12 @@ impl Kernel {
         self.ended
     }
 
-    /// Ends the process, and closes its descriptors in ascending order. It takes no memory.
+    /// Ends the process: its descriptors are closed in ascending order, and its timer stops. It takes no memory.
     #[tactic(auto, unfolding(crate::specs::Operations::finish))]
     pub fn finish(&mut self, end: End)
         ensures { self.new ≡ finish self.old end }
     {
+        self.clocks.stop_timer();
         self.files.close_all();
         self.ended = Some(end);
     }

@@ -1,0 +1,9 @@
+pub mod Steps
+pub mod Maps
+pub mod Contents
+pub mod Transfers
+pub mod Copies
+pub mod Listings
+pub mod Entries
+pub mod Walks
+pub mod Making

@@ -1,0 +1,4 @@
+pub mod Bytes
+pub mod Copies
+pub mod Listings
+pub mod Names

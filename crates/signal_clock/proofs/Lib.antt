@@ -1,0 +1,7 @@
+pub mod Shifts
+pub mod Safety
+pub mod Order
+pub mod Places
+pub mod Passing
+pub mod Intervals
+pub mod ActionItems

@@ -1,0 +1,14 @@
+pub mod ClockState
+pub mod Clocks
+pub mod Timers
+pub mod Sets
+pub mod Held
+pub mod Actions
+pub mod Waiting
+pub mod Posting
+pub mod Masks
+pub mod HeldStack
+pub mod Stacks
+pub mod Taking
+pub mod Sleeping
+pub mod Items
