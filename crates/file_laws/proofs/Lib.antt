@@ -7,3 +7,4 @@ pub mod Listings
 pub mod Entries
 pub mod Walks
 pub mod Making
+pub mod Renaming

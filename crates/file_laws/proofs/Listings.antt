@@ -1,5 +1,5 @@
 -- Entries told one after another.
-use Rattle.std.proofs.Common.{◌≡◌, ◌∙◌, ℕ, ◌<◌, nat_lt, Bool, true, List, [], ◌∷◌, map, Option, Some, None, Result, Ok, Err, refl, ap, sym, subst, arith}
+use Rattle.std.proofs.Common.{◌≡◌, ◌∙◌, ℕ, ◌<◌, nat_lt, true, List, [], ◌∷◌, map, Some, Result, Ok, Err, refl, ap, sym, subst, arith}
 use Rattle.std.proofs.lemmas.Grind.{common_steps}
 use Rattle.std.specs.List.{AllByRecursion}
 use Rattle.std.specs.List.Sorted.{IsStrictlySortedBy}
@@ -8,7 +8,7 @@ use Rattle.std.specs.Ordering.{nat_cmp}
 use Rattle.std.specs.declared.cmp.Ordering.TheVariants.{Less}
 use Rattle.kernel_values.specs.declared.errno.Errno.{Errno}
 use Rattle.kernel_values.specs.declared.listing.DirEntry.{DirEntry}
-use Rattle.number_maps.specs.NumberMap.{IsAscending, after_key, at}
+use Rattle.number_maps.specs.NumberMap.{after_key, at}
 use Rattle.file_tables.specs.Listing.{line_of, lines, listed_after, told}
 use Rattle.file_tables.specs.declared.state.Directory.{Directory}
 use Rattle.file_tables.specs.declared.state.Entry.{Entry}

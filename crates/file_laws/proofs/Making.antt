@@ -1,7 +1,7 @@
 -- A directory that was made, and the steps of its path.
-use Rattle.std.proofs.Common.{◌≡◌, ◌≢◌, ◌∙◌, ℕ, ℤ, ◌+◌, ◌==◌, ◌&&◌, not, Bool, true, false, List, length, cond, Option, Some, None, is_some, ok_or, unwrap_or, Result, Ok, Err, refl, ap, sym, subst}
+use Rattle.std.proofs.Common.{◌≡◌, ◌∙◌, ℕ, ℤ, ◌+◌, ◌==◌, ◌&&◌, not, Bool, true, false, List, length, cond, Option, Some, None, is_some, unwrap_or, Result, Ok, refl, ap, sym, subst}
 use Rattle.std.specs.Bool.{⊤}
-use Rattle.kernel_values.specs.Outcome.{◌>>=◌, ◌>>◌, refused_if, settled}
+use Rattle.kernel_values.specs.Outcome.{◌>>=◌, ◌>>◌, refused_if}
 use Rattle.kernel_values.specs.declared.errno.Errno.{Errno}
 use Rattle.kernel_values.specs.declared.errno.Errno.TheVariants.{Exists, NoEntry, NotDirectory, TableFull}
 use Rattle.number_maps.specs.NumberMap.{at, changed, put}
@@ -23,7 +23,7 @@ use Rattle.file_store.specs.Paths.{is_working, place_of, resolve, resolve_parent
 use Rattle.file_store.specs.declared.state.Files.{Files}
 use Rattle.file_laws.specs.Names.{HasFreshNumbers, LeadsToNewDirectory, MadeDirectoryResolves}
 use Rattle.file_laws.proofs.Maps.{at_changed, at_changed_apart, at_put, at_put_apart, vacant}
-use Rattle.file_laws.proofs.Steps.{both_answered, not_refused, operation_answered, same_answer, same_value}
+use Rattle.file_laws.proofs.Steps.{both_answered, not_refused, operation_answered, same_answer}
 use Rattle.file_laws.proofs.Walks.{Grew, Missing, apart_by, child_new, directory_stays, entry_missing, name_missing, walk_stays}
 
 -- ---- what the making found

@@ -1,7 +1,7 @@
 -- The steps of a path, after one directory got the name of a new directory.
-use Rattle.std.proofs.Common.{◌≡◌, ◌≢◌, ◌∙◌, ℕ, ◌+◌, nat_lt, Bool, true, false, List, [], ◌∷◌, length, cond, Option, Some, None, is_some, ok_or, Result, Ok, Err, refl, ap, sym, subst, inl, inr}
+use Rattle.std.proofs.Common.{◌≡◌, ◌≢◌, ◌∙◌, ℕ, ◌+◌, nat_lt, Bool, true, false, List, [], ◌∷◌, length, cond, Option, Some, None, is_some, ok_or, Ok, refl, ap, sym, subst, inl, inr}
 use Rattle.std.specs.Option.{option_map}
-use Rattle.kernel_values.specs.Outcome.{◌>>=◌, ◌>>◌, refused_if}
+use Rattle.kernel_values.specs.Outcome.{◌>>=◌}
 use Rattle.kernel_values.specs.declared.errno.Errno.{Errno}
 use Rattle.kernel_values.specs.declared.errno.Errno.TheVariants.{NameTooLong, NoEntry, NotDirectory}
 use Rattle.number_maps.specs.NumberMap.{at}
