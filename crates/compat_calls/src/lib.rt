@@ -19,6 +19,3 @@ pub use times::{
 };
 pub use trapping::{trap, trap_by_kind};
 pub use world::World;
-
-#[cfg(test)]
-mod tests;

@@ -61,6 +61,3 @@ impl Files {
         }
     }
 }
-
-#[cfg(test)]
-mod tests;

@@ -28,6 +28,3 @@ pub use file_tree::Maker;
 pub use items::FileCursor;
 pub use open_files::Place;
 pub use state::Files;
-
-#[cfg(test)]
-mod tests;

@@ -23,6 +23,3 @@ pub use own_locks::OwnLocks;
 pub use renaming::{is_fixed, is_same};
 pub use state::{FileTree, Maker};
 pub use status::nameless_status;
-
-#[cfg(test)]
-mod tests;

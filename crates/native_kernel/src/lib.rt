@@ -16,8 +16,3 @@ pub use signal_clock::{
     has_flag, is_on, stack_flags,
 };
 pub use state::{Identity, Kernel, Limits, Process};
-
-#[cfg(test)]
-mod file_tests;
-#[cfg(test)]
-mod tests;

@@ -21,6 +21,3 @@ pub use made::Made;
 pub use readiness::Ready;
 pub use state::{Descriptor, OpenFile, OpenFiles, Place};
 pub use transfers::{place_of, socket_refusal};
-
-#[cfg(test)]
-mod tests;

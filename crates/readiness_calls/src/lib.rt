@@ -8,6 +8,3 @@ mod sets;
 
 pub use choice::serve_readiness;
 pub use sets::Condition;
-
-#[cfg(test)]
-mod tests;

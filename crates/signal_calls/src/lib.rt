@@ -10,6 +10,3 @@ pub mod stacks;
 pub mod timers;
 
 pub use choice::serve_signal;
-
-#[cfg(test)]
-mod tests;

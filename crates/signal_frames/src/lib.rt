@@ -12,6 +12,3 @@ pub use delivery::deliver_all;
 pub use frames::told_stack;
 pub use returns::{rt_sigreturn, sigreturn};
 pub use values::Context;
-
-#[cfg(test)]
-mod tests;
