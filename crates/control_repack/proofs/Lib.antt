@@ -1,0 +1,4 @@
+pub mod Behind
+pub mod Messages
+pub mod Putting
+pub mod Telling

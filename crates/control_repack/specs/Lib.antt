@@ -1,0 +1,4 @@
+pub mod Incoming
+pub mod Laws
+pub mod Outgoing
+pub mod Regions

@@ -1,0 +1,9 @@
+pub mod Maps
+pub mod Steps
+pub mod Values
+pub mod Held
+pub mod Follows
+pub mod Made
+pub mod Named
+pub mod Waiting
+pub mod Ended

@@ -1,0 +1,12 @@
+pub mod Trees
+pub mod Views
+pub mod Changes
+pub mod Opened
+pub mod Closed
+pub mod Simple
+pub mod Names
+pub mod Transfers
+pub mod Opening
+pub mod Locks
+pub mod Fresh
+pub mod Sending

@@ -1,0 +1,5 @@
+use Rattle.sound_files.proofs.Closed as closed
+use Rattle.sound_files.proofs.close_is_sound.Goals as goal
+
+pub returns : goal.returns
+returns c = closed.close_is_sound

@@ -1,0 +1,5 @@
+use Rattle.sound_files.proofs.Transfers as transfers
+use Rattle.sound_files.proofs.read_is_sound.Goals as goal
+
+pub returns : goal.returns
+returns c = transfers.read_is_sound
