@@ -5,7 +5,7 @@ use Rattle.std.specs.Option.{unwrap_or}
 use Rattle.number_maps.specs.NumberMap.{at}
 use Rattle.file_bytes.specs.Row.{resized, written}
 use Rattle.file_tree.specs.Contents.{content_of, overwritten, overwritten_as}
-use Rattle.file_laws.proofs.Maps.{at_changed}
+use Rattle.map_lemmas.proofs.Maps.{at_changed}
 
 overwritten_case : (t : List (ℕ × List ℕ)) (inode start : ℕ) (bytes : List ℕ) (o : Option (List ℕ)) → at t inode ≡ o → is_some o ≡ true → content_of (overwritten_as t inode start bytes o) inode ≡ written (unwrap_or o []) start bytes
 overwritten_case t inode start bytes None h there = cc

@@ -21,8 +21,8 @@ use Rattle.file_store.specs.Descriptors.{close, closed}
 use Rattle.file_store.specs.Releasing.{released, unlocked_as, without_locks}
 use Rattle.file_store.specs.declared.state.Files.{Files}
 use Rattle.file_laws.specs.Copies.{ClosedCopyLeavesTheOthers, CopyNamesTheSame, LeavesTheOthers, OthersStay}
-use Rattle.file_laws.proofs.Maps.{at_put, at_put_apart, at_removed_apart, is_free, vacant}
-use Rattle.file_laws.proofs.Steps.{both_answered, not_refused, operation_answered, same_answer, same_value}
+use Rattle.map_lemmas.proofs.Maps.{at_put, at_put_apart, at_removed_apart, is_free, vacant}
+use Rattle.map_lemmas.proofs.Steps.{both_answered, not_refused, operation_answered, same_answer, same_value}
 
 -- ---- numbers of descriptors
 number_case : (k m : ℕ) (b : Bool) → cond {A = Result ℕ Errno} b (Ok k) (Err BadDescriptor) ≡ Ok m → pos k ≡ pos m

@@ -1,5 +1,3 @@
-pub mod Steps
-pub mod Maps
 pub mod Contents
 pub mod Transfers
 pub mod Copies

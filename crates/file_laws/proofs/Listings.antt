@@ -16,7 +16,7 @@ use Rattle.file_tables.proofs.Lines.{after_dot, after_dot_dot, lines_from}
 use Rattle.file_tree.specs.Listing.{IsBehind, listing}
 use Rattle.file_tree.specs.declared.state.FileTree.{FileTree}
 use Rattle.file_laws.specs.Listings.{AllNamesAreListed, AreToldInTurn, IsListable, listed}
-use Rattle.file_laws.proofs.Steps.{same_value}
+use Rattle.map_lemmas.proofs.Steps.{same_value}
 
 behind_case : (rest all : Result (List DirEntry) Errno) (e : DirEntry) (es : List DirEntry) → rest ≡ Ok es → IsBehind rest e all → all ≡ Ok (e ∷ es)
 behind_case (Ok xs) all e es same h = h ∙ ap (λ (ys : List DirEntry). Ok (e ∷ ys)) (same_value xs es same)

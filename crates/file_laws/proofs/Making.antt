@@ -22,8 +22,8 @@ use Rattle.file_store.specs.NewDirectory.{make_directory, with_directory}
 use Rattle.file_store.specs.Paths.{is_working, place_of, resolve, resolve_parent, start_of}
 use Rattle.file_store.specs.declared.state.Files.{Files}
 use Rattle.file_laws.specs.Names.{HasFreshNumbers, LeadsToNewDirectory, MadeDirectoryResolves}
-use Rattle.file_laws.proofs.Maps.{at_changed, at_changed_apart, at_put, at_put_apart, vacant}
-use Rattle.file_laws.proofs.Steps.{both_answered, not_refused, operation_answered, same_answer}
+use Rattle.map_lemmas.proofs.Maps.{at_changed, at_changed_apart, at_put, at_put_apart, vacant}
+use Rattle.map_lemmas.proofs.Steps.{both_answered, not_refused, operation_answered, same_answer}
 use Rattle.file_laws.proofs.Walks.{Grew, Missing, apart_by, child_new, directory_stays, entry_missing, name_missing, walk_stays}
 
 -- ---- what the making found

@@ -27,8 +27,8 @@ use Rattle.file_store.specs.Renaming.{is_entry_open, rename, renamed}
 use Rattle.file_store.specs.declared.state.Files.{Files}
 use Rattle.file_laws.specs.Names.{HasSoundNames, NameMoves, RenamedNameMoves}
 use Rattle.file_laws.proofs.Entries.{ascending_kept, distinct_kept, named_gone, named_missing, named_there, vacant_kept}
-use Rattle.file_laws.proofs.Maps.{at_changed, at_changed_apart, at_removed_apart, one_or_other, vacant}
-use Rattle.file_laws.proofs.Steps.{both_answered, not_refused, operation_answered, same_answer, same_value}
+use Rattle.map_lemmas.proofs.Maps.{at_changed, at_changed_apart, at_removed_apart, one_or_other, vacant}
+use Rattle.map_lemmas.proofs.Steps.{both_answered, not_refused, operation_answered, same_answer, same_value}
 use Rattle.file_laws.proofs.Walks.{apart_by, found}
 use Rattle.file_tables.proofs.NameSteps.{still_nowhere}
 

@@ -17,7 +17,7 @@ use Rattle.file_store.specs.Transfers.{read, read_file, size_limit, write, write
 use Rattle.file_store.specs.declared.state.Files.{Files}
 use Rattle.file_laws.specs.Bytes.{ReadsInPlace, WrittenBytesReadBack}
 use Rattle.file_laws.proofs.Contents.{content_overwritten, written_reaches, written_there}
-use Rattle.file_laws.proofs.Steps.{both_answered, not_refused, operation_answered, other_branch}
+use Rattle.map_lemmas.proofs.Steps.{both_answered, not_refused, operation_answered, other_branch}
 
 -- what a write of n bytes left
 pub record Wrote (s after : Files) (inode start n : ℕ) (bytes : List ℕ) : Type 0 where

@@ -11,8 +11,8 @@ use Rattle.file_tables.specs.Entries.{named}
 use Rattle.file_tables.specs.declared.state.Directory.{Directory}
 use Rattle.file_tables.specs.declared.state.Entry.{Entry}
 use Rattle.file_laws.proofs.Entries.{named_stays, named_there}
-use Rattle.file_laws.proofs.Maps.{one_or_other}
-use Rattle.file_laws.proofs.Steps.{both_answered, not_refused, same_value}
+use Rattle.map_lemmas.proofs.Maps.{one_or_other}
+use Rattle.map_lemmas.proofs.Steps.{both_answered, not_refused, same_value}
 
 -- a directory got the name of a new directory
 pub record Grew (dirs more : List (ℕ × Directory)) (place : ℕ) (name : List ℕ) (inode : ℕ) (d : Directory) : Type 0 where

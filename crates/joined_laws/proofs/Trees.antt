@@ -10,7 +10,7 @@ use Rattle.tree_laws.specs.Sound.{IsSound}
 use Rattle.tree_laws.specs.Views.{is_there, lies_in, marked}
 use Rattle.tree_laws.proofs.LawsReading.{directory_stands_once, next_inode_is_new}
 use Rattle.tree_laws.proofs.LawsRuns.{made_trees_are_sound}
-use Rattle.tree_laws.proofs.Maps.{is_free, one_or_other, vacant}
+use Rattle.map_lemmas.proofs.Maps.{is_free, one_or_other, vacant}
 use Rattle.tree_laws.proofs.Positions.{found_stands}
 use Rattle.tree_laws.proofs.Views.{entry_there, holder_of}
 use Rattle.sound_files.specs.Sound.{IsFresh}

@@ -11,7 +11,7 @@ use Rattle.open_files.specs.declared.state.OpenFiles.{OpenFiles}
 use Rattle.open_laws.specs.Laws.{DrainedIsSound, GoneIsSound, IsLast, UnnamedIsSound, gone}
 use Rattle.open_laws.specs.Sound.{IsSound, IsSoundFile, IsSoundPipe, NamesThere, is_there}
 use Rattle.open_laws.proofs.Held.{held_is, held_names, names_at, names_removed, open_at, open_removed}
-use Rattle.open_laws.proofs.Maps.{ascending_removed, at_removed_apart, every_removed, one_or_other}
+use Rattle.map_lemmas.proofs.Maps.{ascending_removed, at_removed_apart, every_removed, one_or_other}
 
 -- ---- another holder stays
 module _ (s : OpenFiles) (n : ℕ) (d : Descriptor) (sound : IsSound s) (there : at s.descriptors n ≡ Some d) (held : is_held (without_descriptor s n) d.serial ≡ true) where

@@ -19,8 +19,8 @@ use Rattle.open_files.specs.declared.state.OpenFiles.{OpenFiles}
 use Rattle.open_laws.specs.Laws.{CopyHasNewNumber, DescriptorHasOpenFile, IsNewNumber, NextSerialIsFree, PairHasNewNumbers, PipeHasAnEnd}
 use Rattle.open_laws.specs.Sound.{IsSoundFile, is_there}
 use Rattle.open_laws.proofs.Held.{Opens, open_found, same_number}
-use Rattle.open_laws.proofs.Maps.{is_free, some_there, vacant}
-use Rattle.open_laws.proofs.Steps.{both_answered, not_refused, operation_answered, same_answer, same_value}
+use Rattle.map_lemmas.proofs.Maps.{is_free, some_there, vacant}
+use Rattle.map_lemmas.proofs.Steps.{both_answered, not_refused, operation_answered, same_answer, same_value}
 use Rattle.open_laws.proofs.Values.{any_at}
 
 pub found : {V : Type 0} (o : Option V) (e : Errno) (v : V) → ok_or o e ≡ Ok v → o ≡ Some v

@@ -6,7 +6,7 @@ use Rattle.open_files.specs.Holding.{is_held, is_open, names}
 use Rattle.open_files.specs.declared.state.Descriptor.{Descriptor}
 use Rattle.open_files.specs.declared.state.OpenFile.{OpenFile}
 use Rattle.open_files.specs.declared.state.OpenFiles.{OpenFiles}
-use Rattle.open_laws.proofs.Maps.{at_put, at_put_apart, at_removed_apart, one_or_other, same_there}
+use Rattle.map_lemmas.proofs.Maps.{at_put, at_put_apart, at_removed_apart, one_or_other, same_there}
 use Rattle.open_laws.proofs.Values.{Passes, any_at, any_found}
 
 pub same_number : (a b : ℕ) → a ≡ b → (a == b) ≡ true

@@ -1,5 +1,3 @@
-pub mod Maps
-pub mod Steps
 pub mod Values
 pub mod Held
 pub mod Follows

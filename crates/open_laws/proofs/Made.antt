@@ -19,8 +19,8 @@ use Rattle.open_laws.specs.Laws.{CountedIsSound, InstalledIsSound, IsNewNumber, 
 use Rattle.open_laws.specs.Sound.{IsCounted, IsSound, IsSoundFile, IsSoundPipe, MapsAscend, NamesThere}
 use Rattle.open_laws.proofs.Follows.{pair_has_new_numbers}
 use Rattle.open_laws.proofs.Held.{held_is, held_names, names_at, names_put, open_at, open_put}
-use Rattle.open_laws.proofs.Maps.{ascending_put, at_put, at_put_apart, every_put, not_both, one_or_other, there_at_put, there_put}
-use Rattle.open_laws.proofs.Steps.{both_answered, not_refused, same_value}
+use Rattle.map_lemmas.proofs.Maps.{ascending_put, at_put, at_put_apart, every_put, not_both, one_or_other, there_at_put, there_put}
+use Rattle.map_lemmas.proofs.Steps.{both_answered, not_refused, same_value}
 
 pub nothing_open_is_sound : NothingOpenIsSound
 unfolding IsStrictlySortedBy

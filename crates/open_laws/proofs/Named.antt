@@ -16,8 +16,8 @@ use Rattle.open_laws.specs.Laws.{ChangedIsSound, DuplicateIsSound, MayChange, Ma
 use Rattle.open_laws.specs.Sound.{IsSound, IsSoundFile, IsSoundPipe, NamesThere, is_there}
 use Rattle.open_laws.proofs.Follows.{IsCopy, copy_found, copy_of, descriptor_found, open_file_found}
 use Rattle.open_laws.proofs.Held.{held_is, held_names, names_put, open_put}
-use Rattle.open_laws.proofs.Maps.{ascending_put, every_put, not_both, same_there, there_put}
-use Rattle.open_laws.proofs.Steps.{both_answered, kept_by_settled, same_answer}
+use Rattle.map_lemmas.proofs.Maps.{ascending_put, every_put, not_both, same_there, there_put}
+use Rattle.map_lemmas.proofs.Steps.{both_answered, kept_by_settled, same_answer}
 
 -- ---- descriptors
 module _ (s : OpenFiles) (n : ℕ) (d : Descriptor) (sound : IsSound s) (may : MayName s n d) where

@@ -8,7 +8,7 @@ use Rattle.std.specs.Map.{keys_of, values_of}
 use Rattle.std.specs.Ordering.{nat_cmp}
 use Rattle.std.specs.declared.cmp.Ordering.TheVariants.{Less}
 use Rattle.number_maps.specs.NumberMap.{IsAscending, at}
-use Rattle.open_laws.proofs.Maps.{same_key}
+use Rattle.map_lemmas.proofs.Maps.{same_key}
 
 less_is_other : (p q : ℕ) → nat_cmp p q ≡ Less → is_at (nat_cmp q) p ≡ false
 less_is_other p q h = grind (arith, common_steps)

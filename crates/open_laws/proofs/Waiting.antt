@@ -14,8 +14,8 @@ use Rattle.open_files.specs.declared.state.OpenFiles.{OpenFiles}
 use Rattle.open_files.specs.declared.state.Place.TheVariants.{At, Current}
 use Rattle.open_laws.specs.Laws.{ReadPipeIsSound, TakenIsSound, WritePipeIsSound}
 use Rattle.open_laws.specs.Sound.{IsSound, IsSoundFile, IsSoundPipe, NamesThere}
-use Rattle.open_laws.proofs.Maps.{ascending_changed, every_changed, there_changed}
-use Rattle.open_laws.proofs.Steps.{both_answered, not_refused, same_value}
+use Rattle.map_lemmas.proofs.Maps.{ascending_changed, every_changed, there_changed}
+use Rattle.map_lemmas.proofs.Steps.{both_answered, not_refused, same_value}
 
 -- the state with other pipes
 abbrev with_pipes : OpenFiles → List (ℕ × List ℕ) → OpenFiles

@@ -1,4 +1,3 @@
-pub mod Steps
 pub mod Pages
 pub mod Trees
 pub mod Kernels

@@ -18,7 +18,7 @@ use Rattle.file_tree.specs.Paths.{entry_at, last_entry, parent_from}
 use Rattle.file_tree.specs.declared.state.FileTree.{FileTree}
 use Rattle.record_locks.specs.Foreign.{foreign_lock}
 use Rattle.record_locks.specs.declared.state.ForeignLock.{ForeignLock}
-use Rattle.file_laws.proofs.Maps.{at_changed, at_changed_apart, at_put, at_put_apart, one_or_other}
+use Rattle.map_lemmas.proofs.Maps.{at_changed, at_changed_apart, at_put, at_put_apart, one_or_other}
 
 -- ---- files of the same lengths
 abbrev pub Contents : Type 0

@@ -17,7 +17,7 @@ use Rattle.file_tree.specs.declared.state.Maker.{Maker}
 use Rattle.open_files.specs.Holding.{is_open}
 use Rattle.open_files.specs.declared.state.OpenFile.{OpenFile}
 use Rattle.open_laws.specs.Sound.{is_there}
-use Rattle.open_laws.proofs.Maps.{ascending_put, at_put, at_put_apart, at_removed_apart, every_removed, one_or_other}
+use Rattle.map_lemmas.proofs.Maps.{ascending_put, at_put, at_put_apart, at_removed_apart, every_removed, one_or_other}
 use Rattle.sound_files.specs.Sound.{IsFresh}
 use Rattle.sound_files.proofs.Trees.{IsNameless, Suits}
 use Rattle.sound_files.proofs.Views.{SameInodes, SameNodes, entered_there, left_there, overwritten_there, relengthened_there, retimed_same, same_nodes, touched_same}

@@ -18,9 +18,9 @@ use Rattle.open_files.specs.declared.state.OpenFile.{OpenFile}
 use Rattle.open_files.specs.declared.state.OpenFiles.{OpenFiles}
 use Rattle.open_laws.proofs.Ended.{drained_is_sound, gone_is_sound, unnamed_is_sound}
 use Rattle.open_laws.proofs.Follows.{IsDescriptor, descriptor_found}
-use Rattle.open_laws.proofs.Maps.{ascending_removed, at_gone, at_removed_apart, not_both, some_there}
+use Rattle.map_lemmas.proofs.Maps.{ascending_removed, at_gone, at_removed_apart, not_both, some_there}
 use Rattle.open_laws.proofs.Named.{named_is_sound}
-use Rattle.open_laws.proofs.Steps.{both_answered, kept_by_settled, not_refused, same_answer}
+use Rattle.map_lemmas.proofs.Steps.{both_answered, kept_by_settled, not_refused, same_answer}
 use Rattle.file_store.specs.Closing.{close_all, closed_times, lowest_closed}
 use Rattle.file_store.specs.Descriptors.{closed, is_dup_flags, is_number, vacated}
 use Rattle.file_store.specs.Releasing.{let_go_of, released, without_locks}

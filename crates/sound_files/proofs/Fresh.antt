@@ -32,8 +32,8 @@ use Rattle.open_files.specs.Made.{HasRoom}
 use Rattle.open_files.specs.declared.state.OpenFile.{OpenFile}
 use Rattle.open_laws.specs.Sound.{is_there}
 use Rattle.open_laws.proofs.Made.{counted_is_sound, nothing_open_is_sound}
-use Rattle.open_laws.proofs.Maps.{at_put, at_put_apart, one_or_other}
-use Rattle.open_laws.proofs.Steps.{both_answered, kept_by_settled, not_refused, same_answer}
+use Rattle.map_lemmas.proofs.Maps.{at_put, at_put_apart, one_or_other}
+use Rattle.map_lemmas.proofs.Steps.{both_answered, kept_by_settled, not_refused, same_answer}
 use Rattle.file_store.specs.Image.{fresh_files, on_made}
 use Rattle.file_store.specs.declared.state.Files.{Files}
 use Rattle.sound_files.specs.Laws.{FreshFilesAreSound, FreshTreeIsWhole, ImageBytesIsSound, ImageDirectoryIsSound, ImageFileIsSound, ImageLockIsSound}

@@ -16,7 +16,7 @@ use Rattle.file_tree.specs.declared.state.FileTree.{FileTree}
 use Rattle.open_files.specs.Descriptors.{open_file}
 use Rattle.open_files.specs.Kinds.{is_of_file}
 use Rattle.open_files.specs.declared.state.OpenFile.{OpenFile}
-use Rattle.open_laws.proofs.Steps.{both_answered, kept_by_settled, not_refused, same_answer, same_value}
+use Rattle.map_lemmas.proofs.Steps.{both_answered, kept_by_settled, not_refused, same_answer, same_value}
 use Rattle.file_store.specs.State.{with_tree}
 use Rattle.file_store.specs.declared.state.Files.{Files}
 use Rattle.sound_files.specs.Laws.{SetLockIsSound}

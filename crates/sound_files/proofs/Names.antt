@@ -27,8 +27,8 @@ use Rattle.open_files.specs.Made.{is_full}
 use Rattle.open_files.specs.Piping as piping
 use Rattle.open_files.specs.declared.state.OpenFile.{OpenFile}
 use Rattle.open_laws.proofs.Made.{counted_is_sound, made_pipe_is_sound}
-use Rattle.open_laws.proofs.Maps.{ascending_put, at_put_apart}
-use Rattle.open_laws.proofs.Steps.{both_answered, kept_by_settled, not_refused, same_answer}
+use Rattle.map_lemmas.proofs.Maps.{ascending_put, at_put_apart}
+use Rattle.map_lemmas.proofs.Steps.{both_answered, kept_by_settled, not_refused, same_answer}
 use Rattle.file_store.specs.NewDirectory.{with_directory}
 use Rattle.file_store.specs.Paths.{resolve_parent}
 use Rattle.file_store.specs.Piping.{with_pipe}

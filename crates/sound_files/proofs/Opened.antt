@@ -13,7 +13,7 @@ use Rattle.open_files.specs.Kinds.{is_of_pipe}
 use Rattle.open_files.specs.declared.state.OpenFile.{OpenFile}
 use Rattle.open_laws.specs.Sound.{is_there, most_position}
 use Rattle.open_laws.proofs.Held.{Opens, open_at, open_found, open_put, open_removed}
-use Rattle.open_laws.proofs.Maps.{at_some, every_put, every_removed, not_both, one_or_other, same_there, some_there}
+use Rattle.map_lemmas.proofs.Maps.{at_some, every_put, every_removed, not_both, one_or_other, same_there, some_there}
 use Rattle.open_laws.proofs.Named.{changed_is_sound}
 use Rattle.file_store.specs.declared.state.Files.{Files}
 use Rattle.sound_files.specs.Sound.{Belongs, HasInode, IsApart, IsDirectory, IsFile, IsFresh, IsSound}

@@ -29,8 +29,8 @@ use Rattle.open_laws.specs.Laws.{IsNewNumber}
 use Rattle.open_laws.specs.Sound.{is_there, most_position}
 use Rattle.open_laws.proofs.Follows.{is_new, next_serial_is_free}
 use Rattle.open_laws.proofs.Made.{installed_is_sound}
-use Rattle.open_laws.proofs.Maps.{there_at_put}
-use Rattle.open_laws.proofs.Steps.{both_answered, kept_by_settled, not_refused, same_answer, same_value}
+use Rattle.map_lemmas.proofs.Maps.{there_at_put}
+use Rattle.map_lemmas.proofs.Steps.{both_answered, kept_by_settled, not_refused, same_answer, same_value}
 use Rattle.file_store.specs.Opening.{admitted, kind_of, new_open_file, opened, opened_at, opened_missing, opened_present, truncated, with_file}
 use Rattle.file_store.specs.Paths.{is_working, place_of, resolve_parent, start_of}
 use Rattle.file_store.specs.declared.state.Files.{Files}

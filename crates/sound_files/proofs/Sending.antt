@@ -22,8 +22,8 @@ use Rattle.open_files.specs.declared.state.Place.{Place}
 use Rattle.open_files.specs.declared.state.Place.TheVariants.{At, Current}
 use Rattle.open_laws.specs.Sound.{most_position}
 use Rattle.open_laws.proofs.Follows.{open_file_found}
-use Rattle.open_laws.proofs.Maps.{every_put}
-use Rattle.open_laws.proofs.Steps.{both_answered, not_refused, operation_answered, same_value}
+use Rattle.map_lemmas.proofs.Maps.{every_put}
+use Rattle.map_lemmas.proofs.Steps.{both_answered, not_refused, operation_answered, same_value}
 use Rattle.file_store.specs.Sending.{bytes_from, positioned_as, send_count, send_from, send_source, sent, source_moved}
 use Rattle.file_store.specs.Transfers.{bytes_left, moved_on, write}
 use Rattle.file_store.specs.declared.state.Files.{Files}

@@ -23,7 +23,7 @@ use Rattle.open_files.specs.declared.state.OpenFile.{OpenFile}
 use Rattle.open_files.specs.declared.state.OpenFiles.{OpenFiles}
 use Rattle.open_laws.proofs.Follows.{copy_found, copy_of, open_file_found}
 use Rattle.open_laws.proofs.Named as named
-use Rattle.open_laws.proofs.Steps.{both_answered, kept_by_settled, not_refused, same_answer}
+use Rattle.map_lemmas.proofs.Steps.{both_answered, kept_by_settled, not_refused, same_answer}
 use Rattle.file_store.specs.Lengths.{length_of, raises_length}
 use Rattle.file_store.specs.Paths.{resolve}
 use Rattle.file_store.specs.Retiming.{is_times_flags, retimed_inode}

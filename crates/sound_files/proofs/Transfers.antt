@@ -25,7 +25,7 @@ use Rattle.open_files.specs.declared.state.Place.{Place}
 use Rattle.open_files.specs.declared.state.Place.TheVariants.{At, Current}
 use Rattle.open_laws.specs.Sound.{most_position}
 use Rattle.open_laws.proofs.Follows.{open_file_found}
-use Rattle.open_laws.proofs.Steps.{both_answered, kept_by_settled, not_refused, same_answer, same_value}
+use Rattle.map_lemmas.proofs.Steps.{both_answered, kept_by_settled, not_refused, same_answer, same_value}
 use Rattle.open_laws.proofs.Waiting.{read_pipe_is_sound, write_pipe_is_sound}
 use Rattle.file_store.specs.Seeking.{in_range}
 use Rattle.file_store.specs.State.{with_open_files}

@@ -15,7 +15,7 @@ use Rattle.file_tree.specs.Contents.{overwritten, overwritten_as, relengthened, 
 use Rattle.file_tree.specs.declared.state.FileTree.{FileTree}
 use Rattle.open_files.specs.declared.state.OpenFile.{OpenFile}
 use Rattle.open_laws.specs.Sound.{is_there}
-use Rattle.open_laws.proofs.Maps.{at_put, at_put_apart, one_or_other, there_changed}
+use Rattle.map_lemmas.proofs.Maps.{at_put, at_put_apart, one_or_other, there_changed}
 use Rattle.sound_files.proofs.Trees.{Suits}
 
 -- ---- nodes with other attributes

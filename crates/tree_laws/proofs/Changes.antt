@@ -8,7 +8,7 @@ use Rattle.file_tables.specs.declared.state.Directory.{Directory}
 use Rattle.file_tables.specs.declared.state.Entry.{Entry}
 use Rattle.tree_laws.specs.Sound.{HasSoundNames, PositionsSound, is_name}
 use Rattle.tree_laws.specs.Views.{entry_in, lies_in}
-use Rattle.tree_laws.proofs.Maps.{ascending_changed, at_changed, at_changed_apart, at_gone, at_put, at_put_apart, at_removed_apart, not_both, one_or_other, same_there}
+use Rattle.map_lemmas.proofs.Maps.{ascending_changed, at_changed, at_changed_apart, at_gone, at_put, at_put_apart, at_removed_apart, not_both, one_or_other, same_there}
 use Rattle.tree_laws.proofs.Positions.{left_sound, moved_sound, next_sound, next_vacant, positions_changed, positions_more}
 use Rattle.tree_laws.proofs.Views.{entry_changed, entry_changed_apart, entry_there, lies_changed, lies_nowhere, lies_there, no_entries, same_entry, same_lies}
 

@@ -17,7 +17,7 @@ use Rattle.file_tree.specs.Paths.{entry_at}
 use Rattle.file_tree.specs.Renaming.{is_fixed}
 use Rattle.file_tree.specs.declared.state.FileTree.{FileTree}
 use Rattle.tree_laws.specs.Sound.{is_name}
-use Rattle.tree_laws.proofs.Steps.{both_answered, not_refused, same_value}
+use Rattle.map_lemmas.proofs.Steps.{both_answered, not_refused, same_value}
 
 -- the name could be made there
 pub record Lacks (dirs : List (ℕ × Directory)) (q : ℕ) (n : List ℕ) : Type 0 where

@@ -34,11 +34,11 @@ use Rattle.tree_laws.specs.Making.{FreshTreeIsSound, GivenNumberKeepsSound, Imag
 use Rattle.tree_laws.specs.Sound.{HasSoundNames, IsSound, NamesSound, NumbersSound}
 use Rattle.tree_laws.specs.Views.{ReachesRoot, climbed, entry_in, is_there, lies_in, marked}
 use Rattle.tree_laws.proofs.Entries.{lacks}
-use Rattle.tree_laws.proofs.Maps.{put_there, some_there}
+use Rattle.map_lemmas.proofs.Maps.{put_there, some_there}
 use Rattle.tree_laws.proofs.NodeKinds.{no_bytes, same_node}
 use Rattle.tree_laws.proofs.Numbers.{Only, named_unused, new_not_root, new_unused, numbers_given, numbers_more, numbers_named}
 use Rattle.tree_laws.proofs.Positions.{empty_sound, positions_more}
-use Rattle.tree_laws.proofs.Steps.{both_answered, not_refused}
+use Rattle.map_lemmas.proofs.Steps.{both_answered, not_refused}
 use Rattle.tree_laws.proofs.TreesChanged.{locks_keep_sound, with_bytes_sound}
 use Rattle.tree_laws.proofs.TreesMade.{directory_sound, file_sound}
 use Rattle.tree_laws.proofs.Views.{directory_of, holder_of, marked_put_apart, marked_touched, node_there}

@@ -36,12 +36,12 @@ use Rattle.tree_laws.specs.Reading.{DirectoriesAreShallow, DirectoryStandsOnce, 
 use Rattle.tree_laws.specs.Sound.{HasSoundNames, IsNamed, IsSound}
 use Rattle.tree_laws.specs.Views.{is_there, lies_in, marked, ReachesRoot, entry_in}
 use Rattle.tree_laws.proofs.Entries.{both_false, not_empty}
-use Rattle.tree_laws.proofs.Maps.{one_or_other, some_there}
+use Rattle.map_lemmas.proofs.Maps.{one_or_other, some_there}
 use Rattle.tree_laws.proofs.NodeKinds.{directory_node, no_directory}
 use Rattle.tree_laws.proofs.Numbers.{new_found, new_narrow, new_unused}
 use Rattle.tree_laws.proofs.Positions.{found_stands, next_vacant, same_name}
 use Rattle.tree_laws.proofs.Reach.{Least, fewer_steps, least, never_inside, outside, outside_all}
-use Rattle.tree_laws.proofs.Steps.{both_answered, not_refused, same_value}
+use Rattle.map_lemmas.proofs.Steps.{both_answered, not_refused, same_value}
 use Rattle.tree_laws.proofs.Views.{directory_there, entry_there, holder_of, lies_there, node_there}
 
 pub next_inode_is_new : NextInodeIsNew

@@ -21,11 +21,11 @@ use Rattle.tree_laws.specs.Removing.{LettingGoKeepsSound, RemovedDirectoryKeepsS
 use Rattle.tree_laws.specs.Sound.{IsSound}
 use Rattle.tree_laws.specs.Views.{is_there, lies_in, marked}
 use Rattle.tree_laws.proofs.Entries.{Finds, finds, lacks}
-use Rattle.tree_laws.proofs.Maps.{ascending_removed, at_gone, at_removed_apart, one_or_other, removed_there}
+use Rattle.map_lemmas.proofs.Maps.{ascending_removed, at_gone, at_removed_apart, one_or_other, removed_there}
 use Rattle.tree_laws.proofs.Names.{names_forgotten}
 use Rattle.tree_laws.proofs.NodeKinds.{kinds_but}
 use Rattle.tree_laws.proofs.Numbers.{numbers_stay}
-use Rattle.tree_laws.proofs.Steps.{both_answered, not_refused}
+use Rattle.map_lemmas.proofs.Steps.{both_answered, not_refused}
 use Rattle.tree_laws.proofs.TreesChanged.{locks_keep_sound}
 use Rattle.tree_laws.proofs.TreesLeft.{closed_sound, held_sound, thrown_sound}
 use Rattle.tree_laws.proofs.TreesRenamed.{Spare, differ, is_movable, is_spare, renamed_new, renamed_over}

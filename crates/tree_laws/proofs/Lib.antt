@@ -1,5 +1,3 @@
-pub mod Steps
-pub mod Maps
 pub mod Views
 pub mod Positions
 pub mod Changes

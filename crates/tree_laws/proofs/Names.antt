@@ -5,7 +5,7 @@ use Rattle.file_tables.specs.declared.state.Entry.{Entry}
 use Rattle.file_tables.specs.declared.state.Node.{Node}
 use Rattle.tree_laws.specs.Sound.{IsNamed, NamesSound}
 use Rattle.tree_laws.specs.Views.{entry_in, lies_in, marked}
-use Rattle.tree_laws.proofs.Maps.{not_both, one_or_other}
+use Rattle.map_lemmas.proofs.Maps.{not_both, one_or_other}
 use Rattle.tree_laws.proofs.Views.{here_or_else}
 
 same_entry : (o : Option Entry) (e f : Entry) → o ≡ Some e → o ≡ Some f → e ≡ f

@@ -5,7 +5,7 @@ use Rattle.file_tables.specs.declared.state.Node.{Node}
 use Rattle.file_tree.specs.declared.state.FileTree.{FileTree}
 use Rattle.tree_laws.specs.Sound.{KindsSound}
 use Rattle.tree_laws.specs.Views.{is_there, lies_in, marked}
-use Rattle.tree_laws.proofs.Maps.{one_or_other, vacant}
+use Rattle.map_lemmas.proofs.Maps.{one_or_other, vacant}
 use Rattle.tree_laws.proofs.Views.{directory_there, node_there}
 
 -- what is known of three tests stays with the same three

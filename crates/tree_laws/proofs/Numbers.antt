@@ -14,7 +14,7 @@ use Rattle.file_tables.specs.declared.state.InodeNumbers.{InodeNumbers}
 use Rattle.file_tables.specs.declared.state.Node.{Node}
 use Rattle.tree_laws.specs.Sound.{NumbersSound, ahead, is_ahead, is_known}
 use Rattle.tree_laws.specs.Views.{is_there}
-use Rattle.tree_laws.proofs.Maps.{at_put, at_put_apart, one_or_other, same_key}
+use Rattle.map_lemmas.proofs.Maps.{at_put, at_put_apart, one_or_other, same_key}
 
 -- ---- how many are ahead
 abbrev Image : Type 0

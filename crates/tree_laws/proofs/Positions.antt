@@ -19,7 +19,7 @@ use Rattle.file_tables.specs.declared.state.Directory.{Directory}
 use Rattle.file_tables.specs.declared.state.Entry.{Entry}
 use Rattle.file_tables.proofs.Lookups.{at_itself, same_or_apart}
 use Rattle.tree_laws.specs.Sound.{HasSoundNames, PositionsSound, is_name}
-use Rattle.tree_laws.proofs.Maps.{ascending_put, ascending_removed, put_there, removed_there, same_there}
+use Rattle.map_lemmas.proofs.Maps.{ascending_put, ascending_removed, put_there, removed_there, same_there}
 use Rattle.tree_laws.proofs.Views.{directory_changed}
 
 -- ---- names, as a test

@@ -10,7 +10,7 @@ use Rattle.file_tables.specs.Places.{is_inside, lies_inside}
 use Rattle.file_tables.specs.declared.state.Directory.{Directory}
 use Rattle.tree_laws.specs.Sound.{ReachSound}
 use Rattle.tree_laws.specs.Views.{ReachesRoot, climbed, is_there, lies_in}
-use Rattle.tree_laws.proofs.Maps.{at_removed_apart, not_both, one_or_other}
+use Rattle.map_lemmas.proofs.Maps.{at_removed_apart, not_both, one_or_other}
 use Rattle.tree_laws.proofs.Views.{directory_there, parent_is}
 
 -- ---- one step

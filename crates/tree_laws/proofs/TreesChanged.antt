@@ -18,7 +18,7 @@ use Rattle.file_tree.specs.declared.state.FileTree.{FileTree}
 use Rattle.tree_laws.specs.Changing.{EmptiedFileKeepsSound, EndKeepsSound, LengthKeepsSound, TimesKeepSound, UnlockingKeepsSound, WorkingKeepsSound, WrittenBytesKeepSound}
 use Rattle.tree_laws.specs.Sound.{IsSound, SizesSound}
 use Rattle.tree_laws.specs.Views.{is_there, marked}
-use Rattle.tree_laws.proofs.Maps.{ascending_changed, ascending_put, at_changed, at_changed_apart, at_put, at_put_apart, one_or_other, put_there}
+use Rattle.map_lemmas.proofs.Maps.{ascending_changed, ascending_put, at_changed, at_changed_apart, at_put, at_put_apart, one_or_other, put_there}
 use Rattle.tree_laws.proofs.Names.{names_stay}
 use Rattle.tree_laws.proofs.NodeKinds.{kinds_stay, same_node}
 use Rattle.tree_laws.proofs.Numbers.{numbers_stay}

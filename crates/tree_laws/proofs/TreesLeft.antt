@@ -13,7 +13,7 @@ use Rattle.tree_laws.specs.Sound.{HasSoundNames, IsNamed, IsSound, NamesSound, P
 use Rattle.tree_laws.specs.Views.{entry_in, is_there, lies_in, marked}
 use Rattle.tree_laws.proofs.Changes.{Loses, gone_entry, gone_entry_apart, gone_lies, gone_lies_apart, left_ascends, left_loses, left_positions}
 use Rattle.tree_laws.proofs.Entries.{Finds}
-use Rattle.tree_laws.proofs.Maps.{ascending_removed, at_gone, at_removed_apart, not_both, one_or_other, removed_there}
+use Rattle.map_lemmas.proofs.Maps.{ascending_removed, at_gone, at_removed_apart, not_both, one_or_other, removed_there}
 use Rattle.tree_laws.proofs.Names.{Drops, drop_names}
 use Rattle.tree_laws.proofs.NodeKinds.{kinds_but, kinds_stay, no_content, nowhere, same_directory, same_node}
 use Rattle.tree_laws.proofs.Numbers.{numbers_stay}

@@ -14,7 +14,7 @@ use Rattle.tree_laws.specs.Sound.{IsSound, KindsSound, NumbersSound, SizesSound}
 use Rattle.tree_laws.specs.Views.{entry_in, is_there, lies_in, marked}
 use Rattle.tree_laws.proofs.Changes.{Gains, entered_ascends, entered_gains, entered_positions, made_entries, made_lies, made_lies_apart}
 use Rattle.tree_laws.proofs.Entries.{Lacks}
-use Rattle.tree_laws.proofs.Maps.{ascending_put, at_put, at_put_apart, one_or_other, put_there, vacant}
+use Rattle.map_lemmas.proofs.Maps.{ascending_put, at_put, at_put_apart, one_or_other, put_there, vacant}
 use Rattle.tree_laws.proofs.Names.{Makes, make_names}
 use Rattle.tree_laws.proofs.NodeKinds.{kinds_but, no_directory, nowhere, same_directory, same_node, unmarked}
 use Rattle.tree_laws.proofs.Positions.{empty_sound, positions_put}

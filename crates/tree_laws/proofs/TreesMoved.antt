@@ -19,7 +19,7 @@ use Rattle.tree_laws.specs.Sound.{HasSoundNames, IsSound, KindsSound, NumbersSou
 use Rattle.tree_laws.specs.Views.{climbed, entry_in, is_there, lies_in, marked}
 use Rattle.tree_laws.proofs.Changes.{Gains, Loses, Moved, entered_ascends, entered_gains, entered_positions, gone_entry, gone_entry_apart, gone_lies, gone_lies_apart, into_moved, left_ascends, left_before, left_loses, left_positions, moved_ascends, moved_positions}
 use Rattle.tree_laws.proofs.Entries.{Finds, Lacks}
-use Rattle.tree_laws.proofs.Maps.{ascending_removed, not_both, one_or_other, removed_there, same_there, some_there}
+use Rattle.map_lemmas.proofs.Maps.{ascending_removed, not_both, one_or_other, removed_there, same_there, some_there}
 use Rattle.tree_laws.proofs.Names.{Moves, move_names}
 use Rattle.tree_laws.proofs.NodeKinds.{kinds_stay, nowhere, same_directory, same_node}
 use Rattle.tree_laws.proofs.Numbers.{numbers_more, numbers_stay}

@@ -21,11 +21,11 @@ use Rattle.tree_laws.specs.Sound.{HasSoundNames, IsSound, is_name}
 use Rattle.tree_laws.specs.Views.{climbed, entry_in, is_there, lies_in}
 use Rattle.tree_laws.proofs.Changes.{gone_entry_apart}
 use Rattle.tree_laws.proofs.Entries.{Finds, Lacks}
-use Rattle.tree_laws.proofs.Maps.{at_gone, one_or_other}
+use Rattle.map_lemmas.proofs.Maps.{at_gone, one_or_other}
 use Rattle.tree_laws.proofs.NodeKinds.{same_directory}
 use Rattle.tree_laws.proofs.Positions.{Stands, found_stands, unnamed as other_name}
 use Rattle.tree_laws.proofs.Reach.{all_stay, outside_all, way_stays}
-use Rattle.tree_laws.proofs.Steps.{both_answered, not_refused}
+use Rattle.map_lemmas.proofs.Steps.{both_answered, not_refused}
 use Rattle.tree_laws.proofs.TreesLeft.{childless, closed_sound, dirs_ascend, dirs_at, elsewhere, entry_found, held_sound, lies_apart, loses, thrown_sound}
 use Rattle.tree_laws.proofs.TreesMoved.{Both, Follows, Nowhere, both_dropped, follows_both, follows_name, lacks_there, moved_sound}
 use Rattle.tree_laws.proofs.Views.{ascending_touched, entry_there, here_or_else, lies_there}

@@ -11,7 +11,7 @@ use Rattle.file_tables.specs.declared.state.Directory.{Directory}
 use Rattle.file_tables.specs.declared.state.Entry.{Entry}
 use Rattle.file_tables.specs.declared.state.Node.{Node}
 use Rattle.tree_laws.specs.Views.{entry_as, entry_in, is_there, lies_in, marked}
-use Rattle.tree_laws.proofs.Maps.{ascending_put, at_changed, at_changed_apart, at_gone, at_put, at_put_apart, at_removed_apart, one_or_other}
+use Rattle.map_lemmas.proofs.Maps.{ascending_put, at_changed, at_changed_apart, at_gone, at_put, at_put_apart, at_removed_apart, one_or_other}
 
 -- ---- nodes
 abbrev mark : Node → Bool

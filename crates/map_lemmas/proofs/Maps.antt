@@ -197,3 +197,18 @@ module _ {V : Type 0} where
     | inl same ↦ ap (λ (k : ℕ). is_some (at (changed t key v) k)) same ∙ at_some (changed t key v) key v (at_changed t key old v there) ∙ sym (ap (λ (k : ℕ). is_some (at t k)) same ∙ at_some t key old there)
     | inr other ↦ ap (λ (o : Option V). is_some o) (at_changed_apart t q key v other)
   ]
+
+module _ {V : Type 0} where
+  -- an entry of a map with one more
+  pub put_there : (t : List (ℕ × V)) (key r : ℕ) (v w : V) → at (put t key v) r ≡ Some w → ((r ≡ key) × (v ≡ w)) ⊎ (at t r ≡ Some w)
+  put_there t key r v w h = elim (one_or_other r key) [
+    | inl same ↦ inl (same, (let both : Some v ≡ Some w = sym (ap (at (put t key v)) same ∙ at_put t key v) ∙ h in cc))
+    | inr other ↦ inr (sym (at_put_apart t r key v other) ∙ h)
+  ]
+
+  -- an entry of a map with one less was in it
+  pub removed_there : (t : List (ℕ × V)) (key r : ℕ) (w : V) → IsAscending t → at (removed t key) r ≡ Some w → at t r ≡ Some w
+  removed_there t key r w s h = elim (one_or_other r key) [
+    | inl same ↦ absurd (not_both (at (removed t key) r) w (ap (at (removed t key)) same ∙ at_gone t key s) h)
+    | inr other ↦ sym (at_removed_apart t r key other) ∙ h
+  ]
