@@ -1,7 +1,7 @@
 //! The state of the kernel, told item by item. Each kind of item has a type of its own.
 
 use crate::identity::Credentials;
-use crate::lists::{ByteList, FdList, NameText};
+use crate::lists::{ByteList, NameText, SerialList};
 use crate::open_flags::OpenFlags;
 use crate::process_end::End;
 use crate::rules::TableName;
@@ -179,7 +179,7 @@ pub struct WaitingItem {
 pub struct MessageItem {
     pub serial: u64,
     pub bytes: ByteList,
-    pub rights: FdList,
+    pub rights: SerialList,
     pub credentials: Credentials,
 }
 

@@ -27,7 +27,7 @@ pub use items::{
     RuleItem, SocketItem, StateItem, TableItem, TimeoutsItem, TimerItem, WaitingItem, WorkingItem,
 };
 pub use listing::DirEntry;
-pub use lists::{ByteList, FdList, ItemList, NameText, PathText};
+pub use lists::{ByteList, FdList, ItemList, NameText, PathText, SerialList};
 pub use locks::Lock;
 pub use open_flags::OpenFlags;
 pub use process_end::End;

@@ -74,8 +74,10 @@ pub type ByteList = ItemList<u8>;
 pub type NameText = ItemList<u8>;
 /// The bytes of a path.
 pub type PathText = ItemList<u8>;
-/// Numbers of descriptors, or serial numbers of open files.
+/// Numbers of descriptors.
 pub type FdList = ItemList<u32>;
+/// Serial numbers of open files.
+pub type SerialList = ItemList<u64>;
 
 impl ItemList<u8> {
     /// A copy of these bytes.

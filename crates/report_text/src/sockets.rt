@@ -1,11 +1,10 @@
 //! The lines of Unix sockets.
 
 ghost use Rattle.std.specs.Prelude.{◌≡◌, ◌++◌, OnOk};
-ghost use Rattle.report_text.specs.Fields.{numbers_text};
 ghost use Rattle.report_text.specs.Sockets.{backlog_text, bound_text, message_text, rights_text, sender_text, shut_number, socket_numbers, socket_text, socket_word, state_number, timeouts_text, wait_text};
 
 use crate::fields::{put_bytes_field, put_bytes_line, put_line, put_numbers};
-use crate::text::{put, put_hex};
+use crate::text::put;
 use kernel_values::{
     AbiKind, BacklogItem, BoundItem, Credentials, MessageItem, OutOfMemory, SocketItem, SocketKind,
     SocketState, TimeoutsItem, WaitingItem,
@@ -105,25 +104,13 @@ pub fn put_wait(alloc: Global, out: &mut Vec<u8>, item: WaitingItem) -> Result<(
     put_line(alloc, out, b"wait", &[item.serial, item.connection])
 }
 
-/// The serial numbers of open files, each behind a space.
-#[tactic(auto, unfolding(crate::specs::Fields::numbers_text))]
-fn put_serials(alloc: Global, out: &mut Vec<u8>, serials: &[u32]) -> Result<(), OutOfMemory>
-    ensures { OnOk result (out.new.items ≡ out.old.items ++ numbers_text serials.now) }
-{
-    for serial in serials {
-        put(out, b" ")?;
-        put_hex(alloc, out, u64::from(*serial))?;
-    }
-    Ok(())
-}
-
 /// How many open files a message carries, and their serial numbers.
 #[tactic(auto, unfolding(crate::specs::Sockets::rights_text))]
-fn put_rights(alloc: Global, out: &mut Vec<u8>, rights: &[u32]) -> Result<(), OutOfMemory>
+fn put_rights(alloc: Global, out: &mut Vec<u8>, rights: &[u64]) -> Result<(), OutOfMemory>
     ensures { OnOk result (out.new.items ≡ out.old.items ++ rights_text rights.now) }
 {
     put_numbers(alloc, out, &[rights.len() as u64])?;
-    put_serials(alloc, out, rights)
+    put_numbers(alloc, out, rights)
 }
 
 /// The process, the user and the group that a message is of.

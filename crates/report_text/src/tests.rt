@@ -1,10 +1,10 @@
 use super::*;
 use kernel_values::{
     AbiKind, Action, ActionItem, AltStack, Attributes, BacklogItem, BoundItem, ByteList, BytesItem,
-    ClockItem, Credentials, DescriptorItem, End, FdList, Limit, LimitItem, LockItem, MessageItem,
-    Name, NameItem, NameText, NodeItem, OpenFileItem, OpenFlags, OpenKind, PipeItem, RuleItem,
-    SigInfo, SignalSet, SocketItem, SocketKind, SocketState, StateItem, TableItem, TableName,
-    TimeSpec, TimeVal, TimeoutsItem, TimerItem, WaitingItem, WorkingItem,
+    ClockItem, Credentials, DescriptorItem, End, Limit, LimitItem, LockItem, MessageItem, Name,
+    NameItem, NameText, NodeItem, OpenFileItem, OpenFlags, OpenKind, PipeItem, RuleItem,
+    SerialList, SigInfo, SignalSet, SocketItem, SocketKind, SocketState, StateItem, TableItem,
+    TableName, TimeSpec, TimeVal, TimeoutsItem, TimerItem, WaitingItem, WorkingItem,
 };
 use std::alloc::Global;
 use std::process::Abort;
@@ -333,8 +333,8 @@ fn lines_of_sockets(rt: HostRuntime) -> Result<(), Fail> {
 }
 
 /// A message with these bytes, which carries these open files.
-fn message(alloc: Global, bytes: &[u8], rights: &[u32]) -> Result<StateItem, Fail> {
-    let mut held = FdList::new(alloc);
+fn message(alloc: Global, bytes: &[u8], rights: &[u64]) -> Result<StateItem, Fail> {
+    let mut held = SerialList::new(alloc);
     for serial in rights {
         held.push(*serial)?;
     }
