@@ -4,7 +4,7 @@ use Rattle.std.specs.Prelude.{ℕ, List, [], ◌∷◌, ◌++◌, codes}
 use Rattle.abi_registers.specs.declared.arguments.Form.{Form}
 use Rattle.abi_registers.specs.declared.arguments.Form.TheVariants.{Word, Signed, Pair}
 use Rattle.call_tables.specs.declared.operation.Operation.{Operation}
-use Rattle.call_tables.specs.declared.operation.Operation.TheVariants.{Files, Readiness, Times, Limits, Identity, Signals, Returns}
+use Rattle.call_tables.specs.declared.operation.Operation.TheVariants.{Files, Readiness, Sockets, Times, Limits, Identity, Signals, Returns}
 use Rattle.call_tables.specs.declared.operation.FileOperation.TheVariants.{Paths, Names, Descriptors, Pipes, Transfers, Vectors, Sending, Listings, Status, Retiming, Lengths}
 use Rattle.call_tables.specs.declared.operation.PathOperation.TheVariants as path
 use Rattle.call_tables.specs.declared.operation.NameOperation.TheVariants as name
@@ -18,13 +18,14 @@ use Rattle.call_tables.specs.declared.operation.StatusOperation.TheVariants as s
 use Rattle.call_tables.specs.declared.operation.RetimingOperation.TheVariants as retiming
 use Rattle.call_tables.specs.declared.operation.LengthOperation.TheVariants as lengths
 use Rattle.call_tables.specs.declared.operation.ReadinessOperation.TheVariants as readiness
+use Rattle.call_tables.specs.declared.operation.SocketOperation.TheVariants as sockets
 use Rattle.call_tables.specs.declared.operation.TimeOperation.TheVariants as time
 use Rattle.call_tables.specs.declared.operation.LimitOperation.TheVariants as limit
 use Rattle.call_tables.specs.declared.operation.IdentityOperation.TheVariants as identity
 use Rattle.call_tables.specs.declared.operation.SignalOperation.TheVariants as signals
 use Rattle.call_tables.specs.declared.operation.ReturnOperation.TheVariants as returns
 use Rattle.call_tables.specs.declared.table.Numbers.{Numbers}
-use Rattle.call_tables.specs.declared.table.Numbers.TheVariants.{Both, By}
+use Rattle.call_tables.specs.declared.table.Numbers.TheVariants.{ArmAlone, Both, By}
 
 -- a call, its name in ASCII, its numbers, and the forms of its arguments: Signed for a signed number and a descriptor,
 -- Pair for a 64-bit number in two words, Word for all else
@@ -131,6 +132,20 @@ readiness_calls =
     line (Readiness readiness.Poll) (codes "poll") (Both 168) (Word ∷ Word ∷ Signed ∷ []) ∷  -- poll(ufds, nfds, timeout)
     []
 
+abbrev pub socket_calls : List Line
+socket_calls =
+    line (Sockets sockets.Accept) (codes "accept") (ArmAlone 285) (Signed ∷ Word ∷ Word ∷ []) ∷  -- accept(fd, address, length)
+    line (Sockets sockets.Accept4) (codes "accept4") (By 364 366) (Signed ∷ Word ∷ Word ∷ Signed ∷ []) ∷  -- accept4(fd, address, length, flags)
+    line (Sockets sockets.Bind) (codes "bind") (By 361 282) (Signed ∷ Word ∷ Signed ∷ []) ∷  -- bind(fd, address, length)
+    line (Sockets sockets.Connect) (codes "connect") (By 362 283) (Signed ∷ Word ∷ Signed ∷ []) ∷  -- connect(fd, address, length)
+    line (Sockets sockets.Getpeername) (codes "getpeername") (By 368 287) (Signed ∷ Word ∷ Word ∷ []) ∷  -- getpeername(fd, address, length)
+    line (Sockets sockets.Getsockname) (codes "getsockname") (By 367 286) (Signed ∷ Word ∷ Word ∷ []) ∷  -- getsockname(fd, address, length)
+    line (Sockets sockets.Listen) (codes "listen") (By 363 284) (Signed ∷ Signed ∷ []) ∷  -- listen(fd, backlog)
+    line (Sockets sockets.Shutdown) (codes "shutdown") (By 373 293) (Signed ∷ Signed ∷ []) ∷  -- shutdown(fd, how)
+    line (Sockets sockets.Socket) (codes "socket") (By 359 281) (Signed ∷ Signed ∷ Signed ∷ []) ∷  -- socket(domain, type, protocol)
+    line (Sockets sockets.Socketpair) (codes "socketpair") (By 360 288) (Signed ∷ Signed ∷ Signed ∷ Word ∷ []) ∷  -- socketpair(domain, type, protocol, place)
+    []
+
 abbrev pub time_calls : List Line
 time_calls =
     line (Times time.ClockGetres) (codes "clock_getres") (By 266 264) (Signed ∷ Word ∷ []) ∷  -- clock_getres(clock, time)
@@ -185,7 +200,7 @@ file_calls =
 
 -- all other calls
 unfoldable pub other_calls : List Line
-other_calls = readiness_calls ++ time_calls ++ limit_calls ++ identity_calls ++ signal_calls ++ return_calls
+other_calls = readiness_calls ++ socket_calls ++ time_calls ++ limit_calls ++ identity_calls ++ signal_calls ++ return_calls
 
 abbrev pub calls : List Line
 calls = file_calls ++ other_calls

@@ -6,6 +6,7 @@
 pub enum Operation {
     Files(FileOperation),
     Readiness(ReadinessOperation),
+    Sockets(SocketOperation),
     Times(TimeOperation),
     Limits(LimitOperation),
     Identity(IdentityOperation),
@@ -133,6 +134,21 @@ pub enum LengthOperation {
 pub enum ReadinessOperation {
     Newselect,
     Poll,
+}
+
+/// The calls on Unix sockets.
+#[derive(Clone, Copy, Debug, PartialEq, Eq)]
+pub enum SocketOperation {
+    Accept,
+    Accept4,
+    Bind,
+    Connect,
+    Getpeername,
+    Getsockname,
+    Listen,
+    Shutdown,
+    Socket,
+    Socketpair,
 }
 
 /// The calls on clocks.

@@ -25,11 +25,12 @@ use crate::operation::RetimingOperation::*;
 use crate::operation::ReturnOperation::*;
 use crate::operation::SendingOperation::*;
 use crate::operation::SignalOperation::*;
+use crate::operation::SocketOperation::*;
 use crate::operation::StatusOperation::*;
 use crate::operation::TimeOperation::*;
 use crate::operation::TransferOperation::*;
 use crate::operation::VectorOperation::*;
-use Numbers::{Both, By};
+use Numbers::{ArmAlone, Both, By};
 use abi_registers::Form;
 
 /// The numbers of a call on i386 and on arm.
@@ -77,7 +78,9 @@ const FILE_TABLES: &[&[Entry]] = &[
     LENGTHS,
 ];
 
-const OTHER_TABLES: &[&[Entry]] = &[READINESS, TIMES, LIMITS, IDENTITY, SIGNALS, RETURNS];
+const OTHER_TABLES: &[&[Entry]] = &[
+    READINESS, SOCKETS, TIMES, LIMITS, IDENTITY, SIGNALS, RETURNS,
+];
 
 /// The tables of the calls on files.
 #[tactic(auto, unfolding(crate::specs::Calls::file_calls))]
@@ -189,6 +192,20 @@ const LENGTHS: &[Entry] = &[
 const READINESS: &[Entry] = &[
     Entry(Readiness(Newselect), "_newselect", Both(142), 5, [S, W, W, W, W, W]),
     Entry(Readiness(Poll), "poll", Both(168), 3, [W, W, S, W, W, W]),
+];
+
+#[rattlefmt::skip]
+const SOCKETS: &[Entry] = &[
+    Entry(Sockets(Accept), "accept", ArmAlone(285), 3, [S, W, W, W, W, W]),
+    Entry(Sockets(Accept4), "accept4", By(364, 366), 4, [S, W, W, S, W, W]),
+    Entry(Sockets(Bind), "bind", By(361, 282), 3, [S, W, S, W, W, W]),
+    Entry(Sockets(Connect), "connect", By(362, 283), 3, [S, W, S, W, W, W]),
+    Entry(Sockets(Getpeername), "getpeername", By(368, 287), 3, [S, W, W, W, W, W]),
+    Entry(Sockets(Getsockname), "getsockname", By(367, 286), 3, [S, W, W, W, W, W]),
+    Entry(Sockets(Listen), "listen", By(363, 284), 2, [S, S, W, W, W, W]),
+    Entry(Sockets(Shutdown), "shutdown", By(373, 293), 2, [S, S, W, W, W, W]),
+    Entry(Sockets(Socket), "socket", By(359, 281), 3, [S, S, S, W, W, W]),
+    Entry(Sockets(Socketpair), "socketpair", By(360, 288), 4, [S, S, S, W, W, W]),
 ];
 
 #[rattlefmt::skip]

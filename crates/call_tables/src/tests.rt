@@ -1,8 +1,8 @@
 use crate::{
     DescriptorOperation, FileOperation, IdentityOperation, LengthOperation, LimitOperation,
     ListingOperation, NameOperation, Operation, PathOperation, PipeOperation, ReadinessOperation,
-    RetimingOperation, ReturnOperation, SendingOperation, SignalOperation, StatusOperation,
-    TimeOperation, TransferOperation, VectorOperation, find_row,
+    RetimingOperation, ReturnOperation, SendingOperation, SignalOperation, SocketOperation,
+    StatusOperation, TimeOperation, TransferOperation, VectorOperation, find_row,
 };
 use abi_registers::Form::{self, Pair, Signed, Word};
 use kernel_values::AbiKind::{ArmEabi, Ia32};
@@ -108,13 +108,22 @@ fn offsets_are_pairs(rt: HostRuntime) -> Result<(), Fail> {
     Ok(())
 }
 
-/// A call with its numbers on i386 and arm, its name, its count, and its first four forms.
-const CALLS_OF_MORE_FORMS: [(u32, u32, &[u8], usize, [Form; 4]); 5] = [
+/// A call with its numbers on i386 and arm, its name, its count, and its first four forms: those of more forms, and those on sockets.
+const CALLS_OF_MORE_FORMS: [(u32, u32, &[u8], usize, [Form; 4]); 14] = [
     (168, 168, b"poll", 3, [Word, Word, Signed, Word]),
     (300, 327, b"fstatat64", 4, [Signed, Word, Word, Signed]),
     (301, 328, b"unlinkat", 3, [Signed, Word, Signed, Word]),
     (320, 348, b"utimensat", 4, [Signed, Word, Word, Signed]),
     (324, 352, b"fallocate", 4, [Signed, Signed, Pair, Pair]),
+    (359, 281, b"socket", 3, [Signed, Signed, Signed, Word]),
+    (360, 288, b"socketpair", 4, [Signed, Signed, Signed, Word]),
+    (361, 282, b"bind", 3, [Signed, Word, Signed, Word]),
+    (362, 283, b"connect", 3, [Signed, Word, Signed, Word]),
+    (364, 366, b"accept4", 4, [Signed, Word, Word, Signed]),
+    (363, 284, b"listen", 2, [Signed, Signed, Word, Word]),
+    (367, 286, b"getsockname", 3, [Signed, Word, Word, Word]),
+    (368, 287, b"getpeername", 3, [Signed, Word, Word, Word]),
+    (373, 293, b"shutdown", 2, [Signed, Signed, Word, Word]),
 ];
 
 #[test]
@@ -132,19 +141,32 @@ fn later_flags_are_signed_and_lengths_are_pairs(rt: HostRuntime) -> Result<(), F
 
 #[test]
 fn other_numbers_have_no_row(rt: HostRuntime) {
-    for abi in [Ia32, ArmEabi] {
+    for (abi, alone) in [(Ia32, 0), (ArmEabi, 1)] {
         let rows = (0..1024).filter(|number| find_row(abi, *number).is_some());
-        assert_eq!(rt; rows.count(), CALLS.len() + CALLS_OF_MORE_FORMS.len() + 2);
+        assert_eq!(rt;
+            rows.count(),
+            CALLS.len() + CALLS_OF_MORE_FORMS.len() + 2 + alone
+        );
         for number in [0xf_0000, 0xf_0002, 0xf_0005, 0x7fff_ffff, 0xffff_ffff] {
             assert!(rt; find_row(abi, number).is_none(), "at {number}");
         }
     }
-    for number in [248, 262, 263, 369] {
+    for number in [248, 262, 263, 285, 369] {
         assert!(rt; find_row(Ia32, number).is_none(), "i386 {number}");
     }
     for number in [252, 266, 267, 340] {
         assert!(rt; find_row(ArmEabi, number).is_none(), "arm {number}");
     }
+}
+
+#[test]
+fn accept_is_a_call_of_arm_alone(rt: HostRuntime) -> Result<(), Fail> {
+    let row = find_row(ArmEabi, 285).ok_or("no row")?;
+    assert_eq!(rt; row.operation, Operation::Sockets(SocketOperation::Accept));
+    assert_eq!(rt; row.name, "accept");
+    assert_eq!(rt; row.count, 3);
+    assert_eq!(rt; row.forms, [Signed, Word, Word, Word, Word, Word]);
+    Ok(())
 }
 
 #[test]
@@ -163,7 +185,7 @@ fn one_number_means_two_calls(rt: HostRuntime) -> Result<(), Fail> {
 }
 
 /// A number on i386, and its call: one of each kind.
-const OPERATIONS: [(u32, Operation); 17] = [
+const OPERATIONS: [(u32, Operation); 18] = [
     (
         5,
         Operation::Files(FileOperation::Paths(PathOperation::Open)),
@@ -209,6 +231,7 @@ const OPERATIONS: [(u32, Operation); 17] = [
         Operation::Files(FileOperation::Lengths(LengthOperation::Fallocate)),
     ),
     (168, Operation::Readiness(ReadinessOperation::Poll)),
+    (363, Operation::Sockets(SocketOperation::Listen)),
     (162, Operation::Times(TimeOperation::Nanosleep)),
     (191, Operation::Limits(LimitOperation::Ugetrlimit)),
     (252, Operation::Identity(IdentityOperation::ExitGroup)),

@@ -5,7 +5,7 @@ use Rattle.native_kernel.specs.declared.state.Kernel.{Kernel}
 use Rattle.abi_registers.specs.declared.arguments.Args.{Args}
 use Rattle.layout_laws.specs.Abis.{AbiRules}
 use Rattle.call_tables.specs.declared.operation.Operation.{Operation}
-use Rattle.call_tables.specs.declared.operation.Operation.TheVariants.{Files, Readiness, Times, Limits, Identity, Signals, Returns}
+use Rattle.call_tables.specs.declared.operation.Operation.TheVariants.{Files, Readiness, Sockets, Times, Limits, Identity, Signals, Returns}
 use Rattle.call_tables.specs.declared.operation.TimeOperation.{TimeOperation}
 use Rattle.call_tables.specs.declared.operation.TimeOperation.TheVariants.{ClockGetres, ClockGettime, ClockNanosleep, ClockSettime, Gettimeofday, Nanosleep}
 use Rattle.call_tables.specs.declared.operation.LimitOperation.{LimitOperation}
@@ -15,6 +15,7 @@ use Rattle.call_tables.specs.declared.operation.IdentityOperation.TheVariants.{E
 use Rattle.served_calls.specs.Calls.{Memory, Service, served, spare}
 use Rattle.readiness_calls.specs.Choice.{readiness_service}
 use Rattle.file_calls.specs.Choice.{file_need, file_service}
+use Rattle.message_calls.specs.Choice.{socket_service}
 use Rattle.signal_calls.specs.Choice.{signal_service}
 use Rattle.compat_calls.specs.Identity as identity
 use Rattle.compat_calls.specs.Limits as limits
@@ -46,6 +47,7 @@ identity_service Getuid32 abi args m k = spare (served (identity.getuid32 abi ar
 unfoldable pub call_service : Operation → ℕ → AbiRules → Args → Memory → Kernel → Service Kernel
 call_service (Files call) sp abi args m k = file_service call abi args m k
 call_service (Readiness call) sp abi args m k = readiness_service call abi args m k
+call_service (Sockets call) sp abi args m k = socket_service call abi args m k
 call_service (Times call) sp abi args m k = time_service call abi args m k
 call_service (Limits call) sp abi args m k = limit_service call abi args m k
 call_service (Identity call) sp abi args m k = identity_service call abi args m k
@@ -56,6 +58,7 @@ call_service (Returns call) sp abi args m k = spare (Err NoCall, (m, k))
 unfoldable pub call_need : Operation → Args → Kernel → ℕ
 call_need (Files call) args k = file_need call args k
 call_need (Readiness call) args k = 0
+call_need (Sockets call) args k = 0
 call_need (Times call) args k = 0
 call_need (Limits call) args k = 0
 call_need (Identity call) args k = 0

@@ -12,7 +12,7 @@ use Rattle.abi_registers.specs.Arguments.{args_of}
 use Rattle.abi_registers.specs.Places.{kind_in, number_in, stack_pointer_in, words_in, with_result}
 use Rattle.layout_laws.specs.Abis.{AbiRules, rules_of}
 use Rattle.call_tables.specs.declared.operation.Operation.{Operation}
-use Rattle.call_tables.specs.declared.operation.Operation.TheVariants.{Files, Readiness, Times, Limits, Identity, Signals, Returns}
+use Rattle.call_tables.specs.declared.operation.Operation.TheVariants.{Files, Readiness, Sockets, Times, Limits, Identity, Signals, Returns}
 use Rattle.call_tables.specs.declared.operation.ReturnOperation.{ReturnOperation}
 use Rattle.call_tables.specs.declared.operation.ReturnOperation.TheVariants.{RtSigreturn, Sigreturn}
 use Rattle.call_tables.specs.Rows.{CallRow, row}
@@ -67,6 +67,7 @@ answered r w = left_by r w (need_of r w.kernel) (service_of (rules_of (kind_in r
 abbrev pub return_of : Operation → Option ReturnOperation
 return_of (Files call) = None
 return_of (Readiness call) = None
+return_of (Sockets call) = None
 return_of (Times call) = None
 return_of (Limits call) = None
 return_of (Identity call) = None

@@ -12,6 +12,7 @@ use call_tables::{IdentityOperation, LimitOperation, Operation, TimeOperation};
 use file_calls::serve_file;
 use kernel_values::{Answer, Errno, KernelFault};
 use layout_laws::Compat;
+use message_calls::serve_socket;
 use native_kernel::Kernel;
 use readiness_calls::serve_readiness;
 use scratch_region::Scratch;
@@ -93,6 +94,7 @@ pub fn serve_row<A: Compat>(
     match operation {
         Operation::Files(call) => serve_file::<A>(alloc, memory, kernel, scratch, call, args),
         Operation::Readiness(call) => serve_readiness::<A>(memory, kernel, call, args),
+        Operation::Sockets(call) => serve_socket::<A>(alloc, memory, kernel, call, args),
         Operation::Times(call) => serve_time::<A>(memory, kernel, call, args),
         Operation::Limits(call) => serve_limit::<A>(memory, kernel, call, args),
         Operation::Identity(call) => serve_identity::<A>(memory, kernel, call, args),

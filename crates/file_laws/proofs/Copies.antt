@@ -172,6 +172,7 @@ leaves_the_others s n d o =
       others = subst (λ (t : OpenFiles). OthersStay s.open_files t n) (sym (unlocked_open y o)) others;
       bytes = unlocked_bytes y o;
       waiting = ap (λ (t : OpenFiles). t.pipes) (unlocked_open y o);
+      sockets = ap (λ (t : OpenFiles). t.sockets) (unlocked_open y o);
     }
 
 close_of : (s : Files) (n : ℕ) (d : Descriptor) → n < 2 ^ 32 → close (record s { open_files = with_descriptor s.open_files n d }) (pos n) ≡ (Ok tt, closed (record s { open_files = with_descriptor s.open_files n d }) n d.serial)

@@ -5,14 +5,17 @@ use Rattle.kernel_values.specs.Outcome.{◌>>◌, refused_if}
 use Rattle.kernel_values.specs.OpenFlags.{appends, can_write}
 use Rattle.kernel_values.specs.declared.errno.Errno.{Errno}
 use Rattle.kernel_values.specs.declared.errno.Errno.TheVariants.{BadAddress, BadDescriptor, FileTooLarge, IllegalSeek, IsDirectory}
+use Rattle.kernel_values.specs.declared.identity.Credentials.{Credentials}
 use Rattle.kernel_values.specs.declared.times.TimeSpec.{TimeSpec}
 use Rattle.number_maps.specs.NumberMap.{at}
 use Rattle.file_bytes.specs.Row.{written}
 use Rattle.file_tree.specs.Lengths.{bytes_of, size_of, with_written}
 use Rattle.open_files.specs.Descriptors.{open_file}
 use Rattle.open_files.specs.Kinds.{is_of_directory, is_of_pipe, is_of_socket}
+use Rattle.open_files.specs.Transfers.{write_socket}
 use Rattle.open_files.specs.declared.state.OpenFile.{OpenFile}
 use Rattle.open_files.specs.declared.state.Place.TheVariants.{At}
+use Rattle.file_store.specs.State.{with_open_files}
 use Rattle.file_store.specs.Transfers.{read, read_file, size_limit, write, write_file}
 use Rattle.file_store.specs.declared.state.Files.{Files}
 use Rattle.file_laws.specs.Bytes.{ReadsInPlace, WrittenBytesReadBack}
@@ -76,11 +79,19 @@ no_offset : (s after : Files) (now : TimeSpec) (f : ℕ × OpenFile) (m wanted n
 unfolding write_file
 no_offset s after now f m wanted n bytes h = cc
 
+-- a socket has no offsets
+past_socket : (s after : Files) (own : Credentials) (f : ℕ × OpenFile) (offset : ℤ) (wanted n : ℕ) (bytes : List ℕ) (b : Bool) (r : Result (ℕ × Files) Errno)
+    → cond b (with_open_files s (write_socket s.open_files own f wanted bytes (At offset))) r ≡ Ok (n, after)
+    → (b ≡ false) × (r ≡ Ok (n, after))
+unfolding write_socket
+past_socket s after own f offset wanted n bytes b r h = other_branch b IllegalSeek r (n, after) h
+
 -- what a write to an open file does
-abbrev written_to : Files → TimeSpec → ℕ → List ℕ → ℤ → ℕ × OpenFile → Result (ℕ × Files) Errno
-written_to s now wanted bytes offset f =
-    refused_if (not (can_write f.1.flags)) BadDescriptor >> (refused_if (is_of_directory f.1.kind) IsDirectory >> (refused_if (is_of_socket f.1.kind) IllegalSeek >>
-    cond (is_of_pipe f.1.kind) (Err IllegalSeek) (write_file s now f wanted bytes (At offset))))
+abbrev written_to : Files → TimeSpec → Credentials → ℕ → List ℕ → ℤ → ℕ × OpenFile → Result (ℕ × Files) Errno
+written_to s now own wanted bytes offset f =
+    refused_if (not (can_write f.1.flags)) BadDescriptor >> (refused_if (is_of_directory f.1.kind) IsDirectory >>
+    cond (is_of_socket f.1.kind) (with_open_files s (write_socket s.open_files own f wanted bytes (At offset)))
+    (cond (is_of_pipe f.1.kind) (Err IllegalSeek) (write_file s now f wanted bytes (At offset))))
 
 -- an open file of which bytes were written at an offset is of a file
 pub record WroteTo (s after : Files) (now : TimeSpec) (f : ℕ × OpenFile) (offset : ℤ) (wanted n : ℕ) (bytes : List ℕ) : Type 0 where
@@ -89,20 +100,20 @@ pub record WroteTo (s after : Files) (now : TimeSpec) (f : ℕ × OpenFile) (off
   pub pipe : is_of_pipe f.1.kind ≡ false
   pub file : write_file s now f wanted bytes (At offset) ≡ Ok (n, after)
 
-wrote_to : (s after : Files) (now : TimeSpec) (f : ℕ × OpenFile) (offset : ℤ) (wanted n : ℕ) (bytes : List ℕ) → written_to s now wanted bytes offset f ≡ Ok (n, after) → WroteTo s after now f offset wanted n bytes
-wrote_to s after now f offset wanted n bytes h =
+wrote_to : (s after : Files) (now : TimeSpec) (own : Credentials) (f : ℕ × OpenFile) (offset : ℤ) (wanted n : ℕ) (bytes : List ℕ) → written_to s now own wanted bytes offset f ≡ Ok (n, after) → WroteTo s after now f offset wanted n bytes
+wrote_to s after now own f offset wanted n bytes h =
     let writes = not_refused _ BadDescriptor _ _ h in
     let directory = not_refused (is_of_directory f.1.kind) IsDirectory _ _ writes.1 in
-    let socket = not_refused (is_of_socket f.1.kind) IllegalSeek _ _ directory.1 in
+    let socket = past_socket s after own f offset wanted n bytes (is_of_socket f.1.kind) _ directory.1 in
     let pipe = other_branch (is_of_pipe f.1.kind) IllegalSeek _ _ socket.1 in
     record { directory = directory.0; socket = socket.0; pipe = pipe.0; file = pipe.1 }
 
-pub write_answered : (s : Files) (now : TimeSpec) (fd : ℤ) (f : ℕ × OpenFile) (offset : ℤ) (wanted n : ℕ) (bytes : List ℕ) → open_file s.open_files fd ≡ Ok f → (write s now fd wanted bytes (At offset)).0 ≡ Ok n → WroteTo s (write s now fd wanted bytes (At offset)).1 now f offset wanted n bytes
-write_answered s now fd f offset wanted n bytes named h =
-    let after : Files = (write s now fd wanted bytes (At offset)).1 in
-    let steps = both_answered (open_file s.open_files fd) (written_to s now wanted bytes offset) (n, after) (operation_answered s _ n h) in
+pub write_answered : (s : Files) (now : TimeSpec) (own : Credentials) (fd : ℤ) (f : ℕ × OpenFile) (offset : ℤ) (wanted n : ℕ) (bytes : List ℕ) → open_file s.open_files fd ≡ Ok f → (write s now own fd wanted bytes (At offset)).0 ≡ Ok n → WroteTo s (write s now own fd wanted bytes (At offset)).1 now f offset wanted n bytes
+write_answered s now own fd f offset wanted n bytes named h =
+    let after : Files = (write s now own fd wanted bytes (At offset)).1 in
+    let steps = both_answered (open_file s.open_files fd) (written_to s now own wanted bytes offset) (n, after) (operation_answered s _ n h) in
     let same : steps.0 ≡ f = cc (steps.1) in
-    wrote_to s after now f offset wanted n bytes (subst (λ (g : ℕ × OpenFile). written_to s now wanted bytes offset g ≡ Ok (n, after)) same steps.2)
+    wrote_to s after now own f offset wanted n bytes (subst (λ (g : ℕ × OpenFile). written_to s now own wanted bytes offset g ≡ Ok (n, after)) same steps.2)
 
 some_room : (n room : ℕ) → n ≤ room → (not (n == 0) && (room == 0)) ≡ false
 some_room n room h = grind (arith, common_steps)
@@ -123,5 +134,5 @@ by_offset s now fd f (pos start) wanted n room bytes after reads to fits =
 by_offset s now fd f (negsuc m) wanted n room bytes after reads to fits = absurd (no_offset s after now f m wanted n bytes to.file)
 
 pub written_bytes_read_back : WrittenBytesReadBack
-written_bytes_read_back s now fd f offset wanted n room bytes reads h fits =
-    by_offset s now fd f offset wanted n room bytes (write s now fd wanted bytes (At offset)).1 reads (write_answered s now fd f offset wanted n bytes reads.named h) fits
+written_bytes_read_back s now own fd f offset wanted n room bytes reads h fits =
+    by_offset s now fd f offset wanted n room bytes (write s now own fd wanted bytes (At offset)).1 reads (write_answered s now own fd f offset wanted n bytes reads.named h) fits

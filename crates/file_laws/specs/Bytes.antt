@@ -1,6 +1,7 @@
 -- Bytes that were written, read back.
 use Rattle.std.specs.Prelude.{◌≡◌, ◌≤◌, ℕ, ℤ, true, false, is_some, List, length, take, Ok}
 use Rattle.kernel_values.specs.OpenFlags.{appends, can_read}
+use Rattle.kernel_values.specs.declared.identity.Credentials.{Credentials}
 use Rattle.kernel_values.specs.declared.times.TimeSpec.{TimeSpec}
 use Rattle.number_maps.specs.NumberMap.{at}
 use Rattle.open_files.specs.Descriptors.{open_file}
@@ -20,8 +21,8 @@ pub record ReadsInPlace (s : Files) (fd : ℤ) (f : ℕ × OpenFile) : Type 0 wh
 -- gives exactly these.
 abbrev pub WrittenBytesReadBack : Type 0
 WrittenBytesReadBack =
-    (s : Files) (now : TimeSpec) (fd : ℤ) (f : ℕ × OpenFile) (offset : ℤ) (wanted n room : ℕ) (bytes : List ℕ)
+    (s : Files) (now : TimeSpec) (own : Credentials) (fd : ℤ) (f : ℕ × OpenFile) (offset : ℤ) (wanted n room : ℕ) (bytes : List ℕ)
     → ReadsInPlace s fd f
-    → (write s now fd wanted bytes (At offset)).0 ≡ Ok n
+    → (write s now own fd wanted bytes (At offset)).0 ≡ Ok n
     → n ≤ room
-    → (n ≤ length bytes) × ((read (write s now fd wanted bytes (At offset)).1 fd n room (At offset)).0 ≡ Ok (take n bytes))
+    → (n ≤ length bytes) × ((read (write s now own fd wanted bytes (At offset)).1 fd n room (At offset)).0 ≡ Ok (take n bytes))

@@ -36,6 +36,7 @@ pub record LeavesTheOthers (before after : Files) (n : ℕ) : Type 0 where
   pub others : OthersStay before.open_files after.open_files n
   pub bytes : after.tree.contents ≡ before.tree.contents
   pub waiting : after.open_files.pipes ≡ before.open_files.pipes
+  pub sockets : after.open_files.sockets ≡ before.open_files.sockets
 
 -- A copy that is closed leaves all other descriptors as they were before the copy was made.
 abbrev pub ClosedCopyLeavesTheOthers : Type 0

@@ -12,6 +12,7 @@ pub mod Listing
 pub mod Transfers
 pub mod Sending
 pub mod Piping
+pub mod Connecting
 pub mod Lengths
 pub mod Retiming
 pub mod Status

@@ -5,6 +5,7 @@ use Rattle.kernel_values.specs.Outcome.{◌>>=◌, ◌>>◌, refused_if}
 use Rattle.kernel_values.specs.OpenFlags.{appends, can_read, can_write}
 use Rattle.kernel_values.specs.declared.errno.Errno.{Errno}
 use Rattle.kernel_values.specs.declared.errno.Errno.TheVariants.{BadDescriptor, InvalidArgument, Overflow}
+use Rattle.kernel_values.specs.declared.identity.Credentials.{Credentials}
 use Rattle.kernel_values.specs.declared.times.TimeSpec.{TimeSpec}
 use Rattle.number_maps.specs.NumberMap.{at}
 use Rattle.file_tree.specs.Lengths.{bytes_of}
@@ -60,14 +61,14 @@ abbrev pub sent : ℕ → Place → ℕ → Result ℕ Errno × Files → Result
 sent serial place start (Ok n, s) = (Ok n, source_moved s serial place (start + n))
 sent serial place start (Err e, s) = (Err e, s)
 
-abbrev pub send_from : Files → TimeSpec → ℤ → Place → Result ((ℕ × OpenFile) × (ℕ × ℕ)) Errno → Result ℕ Errno × Files
-send_from s now target place (Err e) = (Err e, s)
-send_from s now target place (Ok x) = let bytes = bytes_from s x.0.1.inode x.1.0 x.1.1 in
-    sent x.0.0 place x.1.0 (write s now target (length bytes) bytes Current)
+abbrev pub send_from : Files → TimeSpec → Credentials → ℤ → Place → Result ((ℕ × OpenFile) × (ℕ × ℕ)) Errno → Result ℕ Errno × Files
+send_from s now own target place (Err e) = (Err e, s)
+send_from s now own target place (Ok x) = let bytes = bytes_from s x.0.1.inode x.1.0 x.1.1 in
+    sent x.0.0 place x.1.0 (write s now own target (length bytes) bytes Current)
 
 -- sendfile and sendfile64: what the source gives is written as by write, also where it gives no byte
-abbrev pub send_file : Files → TimeSpec → ℤ → ℤ → Place → ℕ → Bool → Result ℕ Errno × Files
-send_file s now target source place count narrow = send_from s now target place (send_source s target source place count narrow)
+abbrev pub send_file : Files → TimeSpec → Credentials → ℤ → ℤ → Place → ℕ → Bool → Result ℕ Errno × Files
+send_file s now own target source place count narrow = send_from s now own target place (send_source s target source place count narrow)
 
 -- so many bytes from an offset on end within the file, where there are any
 abbrev pub EndsInFile : Place → ℕ → Type 0

@@ -3,6 +3,7 @@
 #![tactic(auto)]
 
 mod closing;
+mod connecting;
 mod descriptors;
 mod image;
 mod items;

@@ -6,7 +6,7 @@ ghost use Rattle.file_tree.specs.Lengths.{size_of};
 ghost use Rattle.file_store.specs.Sending.{EndsInFile, narrow_count, send_count, send_file, send_source, source_moved};
 
 use crate::state::Files;
-use kernel_values::{Answer, Errno, KernelFault, MOST_NARROW, TimeSpec};
+use kernel_values::{Answer, Credentials, Errno, KernelFault, MOST_NARROW, TimeSpec};
 use open_files::{OpenFile, Place, is_of_directory, is_of_file, place_of};
 use std::alloc::Global;
 
@@ -93,7 +93,8 @@ impl Files {
 
     /// sendfile and sendfile64: writes bytes of a file, from its position or from an offset on, to what another descriptor has open, at
     /// most `count`; with a `narrow` offset none from byte 2^31 - 1 on. It gives how many. From its position on the source's position
-    /// moves by as many; an offset is the caller's. `now` is the real time, which the target's times are set to.
+    /// moves by as many; an offset is the caller's. `now` is the real time, which the target's times are set to, and
+    /// `own` are the process's credentials.
     ///
     /// EBADF where the target isn't open for writing, and then where the source isn't open for reading; EINVAL for an offset below 0,
     /// for a source that is no file, and for a target that is a directory or appends; EOVERFLOW for a narrow offset of 2^31 - 1 and above; what
@@ -103,13 +104,14 @@ impl Files {
         &mut self,
         alloc: Global,
         now: TimeSpec,
+        own: Credentials,
         target: i64,
         source: i64,
         place: Place,
         count: u64,
         narrow: bool,
     ) -> Answer<u64>
-        ensures gives { Gives (λ n. n) result self.new (send_file self.old now target source place count narrow) }
+        ensures gives { Gives (λ n. n) result self.new (send_file self.old now own target source place count narrow) }
         ensures count { IfOk result (λ n. n ≤ count) }
         ensures end { IfOk result (λ n. EndsInFile place n) }
     {
@@ -118,7 +120,7 @@ impl Files {
         )?;
         let bytes = self.bytes_at(alloc, file.inode, start, left)?;
         let wanted = bytes.len() as u64;
-        let written = self.write(alloc, now, target, wanted, &bytes, Place::Current)?;
+        let written = self.write(alloc, now, own, target, wanted, &bytes, Place::Current)?;
         self.move_source(serial, place, start + written);
         Ok(written)
     }

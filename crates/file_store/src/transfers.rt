@@ -1,21 +1,20 @@
-//! Reads and writes of files and pipes.
+//! Reads and writes of files, pipes and sockets.
 
 ghost use Rattle.std.specs.Prelude.{◌≡◌, ◌-◌, ◌+◌, ◌<◌, ◌≤◌, ◌^◌, true, IsSome, IfOk, OnErr, length, max, take, drop, ◌⊎◌};
 ghost use Rattle.kernel_values.specs.Bounds.{most_file_bytes};
 ghost use Rattle.kernel_values.specs.Outcome.{Gives, GivesAlways, OnOutOfMemory, Tells, settled};
 ghost use Rattle.number_maps.specs.NumberMap.{at};
 ghost use Rattle.file_tree.specs.Lengths.{bytes_of, size_of};
-ghost use Rattle.open_files.specs.Transfers.{moves_bytes, read_pipe, write_pipe};
+ghost use Rattle.open_files.specs.Transfers.{moves_bytes, read_pipe, write_pipe, write_socket};
 ghost use Rattle.file_store.specs.State.{with_open_files};
-ghost use Rattle.file_store.specs.Transfers.{bytes_left, moved_on, read, read_file, size_limit, write, write_file, write_place};
+ghost use Rattle.file_store.specs.Transfers.{bytes_left, moved_on, read, read_file, read_socket, size_limit, write, write_file, write_place};
 
 use crate::state::Files;
 use kernel_values::{
-    Answer, Errno, KernelFault, MOST_FILE_BYTES, MOST_NARROW, OutOfMemory, TimeSpec,
+    Answer, ByteList, Credentials, Errno, KernelFault, MOST_FILE_BYTES, MOST_NARROW, OutOfMemory,
+    TimeSpec,
 };
-use open_files::{
-    OpenFile, Place, is_of_directory, is_of_pipe, is_of_socket, place_of, socket_refusal,
-};
+use open_files::{OpenFile, Place, is_of_directory, is_of_pipe, is_of_socket, place_of};
 use std::alloc::Global;
 
 /// The bytes that a file may have for a write through this open file.
@@ -117,11 +116,35 @@ impl Files {
         self.open_files.read_pipe(alloc, inode, wanted, room, place)
     }
 
+    /// Reads a socket: open files that come with the bytes are let go.
+    #[tactic(auto, unfolding(crate::specs::Transfers::read_socket))]
+    fn read_socket(
+        &mut self,
+        alloc: Global,
+        serial: u64,
+        file: OpenFile,
+        wanted: u64,
+        room: u64,
+        place: Place,
+    ) -> Answer<ByteList>
+        ensures gives { Gives (λ v. v) result self.new (settled self.old (read_socket self.old (serial, file) wanted room place)) }
+        ensures count { IfOk result (λ v. length v ≤ wanted) }
+        ensures space { IfOk result (λ v. length v ≤ room) }
+        ensures moves { OnOutOfMemory result (moves_bytes (settled self.old (read_socket self.old (serial, file) wanted room place)).0 ≡ true) }
+    {
+        let received = self
+            .open_files
+            .receive_socket(alloc, serial, file, wanted, room, place)?;
+        self.sweep(received.rights);
+        Ok(received.bytes)
+    }
+
     /// read and pread64: gives bytes, at most `wanted` and at most as many as there is `room` for in memory. From an empty
-    /// pipe that nothing is open to write to it gives none.
+    /// pipe that nothing is open to write to it gives none, and from a socket at its end.
     ///
-    /// EBADF, also where it isn't open for reading; EISDIR; EOPNOTSUPP for a socket; ESPIPE for a place in a pipe or a socket; EINVAL for one below 0; EAGAIN for an
-    /// empty pipe; EFAULT where bytes could be read and there is no room. Memory may be wanting only where bytes are read.
+    /// EBADF, also where it isn't open for reading; EISDIR; ESPIPE for a place in a pipe or a socket; EINVAL for one below 0; EAGAIN for an
+    /// empty pipe; what a receive of a socket answers; EFAULT where bytes could be read and there is no room. Memory may be wanting only
+    /// where bytes are read.
     pub fn read(
         &mut self,
         alloc: Global,
@@ -129,10 +152,10 @@ impl Files {
         wanted: u64,
         room: u64,
         place: Place,
-    ) -> Answer<Vec<u8>>
-        ensures gives { Gives (λ v. v.items) result self.new (read self.old fd wanted room place) }
-        ensures count { IfOk result (λ v. length v.items ≤ wanted) }
-        ensures space { IfOk result (λ v. length v.items ≤ room) }
+    ) -> Answer<ByteList>
+        ensures gives { Gives (λ v. v) result self.new (read self.old fd wanted room place) }
+        ensures count { IfOk result (λ v. length v ≤ wanted) }
+        ensures space { IfOk result (λ v. length v ≤ room) }
         ensures moves { OnOutOfMemory result (moves_bytes (read self.old fd wanted room place).0 ≡ true) }
     {
         let (serial, file) = self.open_files.open_file(fd)?;
@@ -143,12 +166,14 @@ impl Files {
             return Err(KernelFault::Errno(Errno::IsDirectory));
         }
         if is_of_socket(file.kind) {
-            return Err(KernelFault::Errno(socket_refusal(place)));
+            return self.read_socket(alloc, serial, file, wanted, room, place);
         }
         if is_of_pipe(file.kind) {
-            return self.read_pipe(alloc, file.inode, wanted, room, place);
+            let bytes = self.read_pipe(alloc, file.inode, wanted, room, place)?;
+            return Ok(ByteList::from_vec(bytes));
         }
-        self.read_file(alloc, serial, file, wanted, room, place)
+        let bytes = self.read_file(alloc, serial, file, wanted, room, place)?;
+        Ok(ByteList::from_vec(bytes))
     }
 
     /// Where a write begins: at the end with O_APPEND. EINVAL below 0.
@@ -206,22 +231,42 @@ impl Files {
         self.open_files.write_pipe(inode, wanted, piece, place)
     }
 
-    /// write and pwrite64: of the `wanted` bytes as many as the file may get, or as the pipe has room for, and as `piece` has,
-    /// which are those that memory gave. It gives how many. `now` is the real time, which a file's times are set to.
+    /// Writes to a socket, as `OpenFiles::write_socket` does.
+    fn write_socket(
+        &mut self,
+        alloc: Global,
+        own: Credentials,
+        serial: u64,
+        file: OpenFile,
+        wanted: u64,
+        piece: &[u8],
+        place: Place,
+    ) -> Answer<u64>
+        ensures gives { Gives (λ n. n) result self.new (settled self.old (with_open_files self.old (write_socket self.old.open_files own (serial, file) wanted piece.now place))) }
+        ensures count { IfOk result (λ n. n ≤ wanted) }
+    {
+        self.open_files
+            .write_socket(alloc, own, serial, file, wanted, piece, place)
+    }
+
+    /// write and pwrite64: of the `wanted` bytes as many as the file may get, or as the pipe or the stream has room for, and as `piece` has,
+    /// which are those that memory gave. It gives how many. `now` is the real time, which a file's times are set to, and `own` are the
+    /// process's credentials, which a message tells.
     ///
-    /// EBADF, also where it isn't open for writing; EISDIR; EOPNOTSUPP for a socket; ESPIPE for a place in a pipe or a socket; EINVAL for one below 0; EPIPE for a
-    /// pipe that nothing is open to read from; EAGAIN for one without room; EFBIG at or past the limit of sizes; EFAULT where
-    /// bytes could be written and there is none.
+    /// EBADF, also where it isn't open for writing; EISDIR; ESPIPE for a place in a pipe or a socket; EINVAL for one below 0; EPIPE for a
+    /// pipe that nothing is open to read from; EAGAIN for one without room; what a send on a socket answers; EFBIG at or past the limit of
+    /// sizes; EFAULT where bytes could be written and there is none.
     pub fn write(
         &mut self,
         alloc: Global,
         now: TimeSpec,
+        own: Credentials,
         fd: i64,
         wanted: u64,
         piece: &[u8],
         place: Place,
     ) -> Answer<u64>
-        ensures gives { Gives (λ n. n) result self.new (write self.old now fd wanted piece.now place) }
+        ensures gives { Gives (λ n. n) result self.new (write self.old now own fd wanted piece.now place) }
         ensures count { IfOk result (λ n. n ≤ wanted) }
     {
         let (serial, file) = self.open_files.open_file(fd)?;
@@ -232,7 +277,7 @@ impl Files {
             return Err(KernelFault::Errno(Errno::IsDirectory));
         }
         if is_of_socket(file.kind) {
-            return Err(KernelFault::Errno(socket_refusal(place)));
+            return self.write_socket(alloc, own, serial, file, wanted, piece, place);
         }
         if is_of_pipe(file.kind) {
             return self.write_pipe(file.inode, wanted, piece, place);

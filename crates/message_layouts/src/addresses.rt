@@ -1,6 +1,6 @@
 //! Addresses of Unix sockets, `struct sockaddr_un` of `include/uapi/linux/un.h`: the family in 2 bytes, and then the name.
 
-ghost use Rattle.std.specs.Prelude.{◌≡◌, ◌+◌, ◌<◌, ◌≤◌, ◌++◌, length, drop, take, eqb};
+ghost use Rattle.std.specs.Prelude.{◌≡◌, ◌+◌, ◌<◌, ◌≤◌, ◌++◌, length, drop, take, eqb, IfOk};
 ghost use Rattle.std.specs.List.{position_or_len};
 ghost use Rattle.byteorder.specs.Endian.{little_bytes};
 ghost use Rattle.kernel_values.specs.Outcome.{TellsAs};
@@ -30,7 +30,8 @@ pub const ADDRESS_ROOM: usize = 111;
 /// The name that an address has. One that begins with a zero (abstract) is all its bytes, and another one ends before its first zero. EINVAL for
 /// fewer than 3 or more than 110 bytes, and for a family other than 1.
 pub fn address_in(from: &[u8]) -> Result<Name, Errno>
-    ensures { TellsAs (λ n. n) result (address_of from.now) }
+    ensures told { TellsAs (λ n. n) result (address_of from.now) }
+    ensures most { IfOk result (λ n. length n ≤ 108) }
 {
     if from.len() < LEAST || from.len() > MOST {
         return Err(Errno::InvalidArgument);
@@ -45,7 +46,8 @@ pub fn address_in(from: &[u8]) -> Result<Name, Errno>
 fn name_in(path: &[u8]) -> Name
     requires some { 0 < length path.now }
     requires few { length path.now ≤ 108 }
-    ensures { result ≡ name_in path.now }
+    ensures name { result ≡ name_in path.now }
+    ensures most { length result ≤ 108 }
 {
     if path[0] == 0 {
         return Name::new(path);

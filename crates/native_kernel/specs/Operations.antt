@@ -1,5 +1,5 @@
 -- One definition for each call of the kernel: its answer, and the state after it. A row opens none, but the seek that ends a listing.
-use Rattle.std.specs.Prelude.{Bool, ℕ, ℤ, List, Option, Some, None, Result, Err, ⊤}
+use Rattle.std.specs.Prelude.{Bool, true, false, ℕ, ℤ, List, Option, Some, None, Result, Err, ⊤}
 use Rattle.kernel_values.specs.declared.errno.Errno.{Errno}
 use Rattle.kernel_values.specs.declared.errno.Errno.TheVariants.{BrokenPipe}
 use Rattle.kernel_values.specs.declared.errno.KernelFault.{KernelFault}
@@ -37,12 +37,17 @@ use Rattle.signal_clock.specs.Timers as timers
 use Rattle.file_tree.specs.declared.state.Maker.{Maker}
 use Rattle.open_files.specs.declared.state.Place.{Place}
 use Rattle.file_tree.specs.Working as working_text
+use Rattle.open_files.specs.Accepting as accepting
 use Rattle.open_files.specs.Descriptors as positions
 use Rattle.open_files.specs.Flags as flags_of
 use Rattle.open_files.specs.Numbers as numbers
 use Rattle.open_files.specs.Readiness as readiness
+use Rattle.open_files.specs.Sockets as unix_sockets
+use Rattle.open_files.specs.Sockets.{sends_datagrams}
+use Rattle.open_files.specs.declared.accepting.Accepted.{Accepted}
 use Rattle.open_files.specs.declared.readiness.Ready.{Ready}
 use Rattle.file_store.specs.Closing as closing
+use Rattle.file_store.specs.Connecting as connecting
 use Rattle.file_store.specs.Descriptors as descriptors
 use Rattle.file_store.specs.Image as image
 use Rattle.file_store.specs.Image.{fresh_files}
@@ -176,31 +181,42 @@ read k fd wanted room place = on_files k (transfers.read k.files fd wanted room 
 abbrev pub pipe_signal : Kernel → SigInfo
 pipe_signal k = posting.own_info (credentials k) 13
 
--- who writes to a pipe without a reader gets SIGPIPE
+-- who writes to a pipe without a reader, or to a stream whose peer reads no more, gets SIGPIPE
 abbrev pub pipe_signalled : Errno → Kernel → Kernel
 pipe_signalled BrokenPipe k = posted k (pipe_signal k)
 pipe_signalled e k = k
 
+-- a datagram socket that can't send posts nothing
+abbrev pub signalled_unless : Bool → Errno → Kernel → Kernel
+signalled_unless true e k = k
+signalled_unless false e k = pipe_signalled e k
+
+-- what refused a write to a descriptor
+abbrev pub signalled_at : ℤ → Errno → Kernel → Kernel
+signalled_at fd e k = signalled_unless (sends_datagrams k.files.open_files fd) e k
+
 -- the same by an answer
-abbrev pub pipe_signalled_by : Result ℕ KernelFault → Kernel → Kernel
-pipe_signalled_by (Err (fault.Errno e)) k = pipe_signalled e k
-pipe_signalled_by answer k = k
+abbrev pub signalled_by : ℤ → Result ℕ KernelFault → Kernel → Kernel
+signalled_by fd (Err (fault.Errno e)) k = signalled_at fd e k
+signalled_by fd answer k = k
 
 unfoldable pub write : Kernel → ℤ → ℕ → List ℕ → Place → Result ℕ Errno × Kernel
-write k fd wanted piece place = marked pipe_signalled (on_files k (transfers.write k.files (time_of k.clocks.real) fd wanted piece place))
+write k fd wanted piece place =
+    marked (signalled_at fd) (on_files k (transfers.write k.files (time_of k.clocks.real) (credentials k) fd wanted piece place))
 
 unfoldable pub seek : Kernel → ℤ → ℤ → ℕ → Result ℤ Errno × Kernel
 seek k fd offset whence = on_files k (seeking.seek k.files fd offset whence)
 
 -- bytes of a file sent to what another descriptor has open
 unfoldable pub send_file : Kernel → ℤ → ℤ → Place → ℕ → Bool → Result ℕ Errno × Kernel
-send_file k target source place count narrow = marked pipe_signalled (on_files k (sending.send_file k.files (time_of k.clocks.real) target source place count narrow))
+send_file k target source place count narrow =
+    marked (signalled_at target) (on_files k (sending.send_file k.files (time_of k.clocks.real) (credentials k) target source place count narrow))
 
 -- what a descriptor is ready for
 unfoldable pub ready : Kernel → ℤ → Result Ready Errno
 ready k fd = readiness.ready k.files.open_files fd
 
--- how many bytes wait in a pipe
+-- how many bytes wait in a pipe or a socket
 unfoldable pub waiting_bytes : Kernel → ℤ → Result ℕ Errno
 waiting_bytes k fd = readiness.waiting_bytes k.files.open_files fd
 
@@ -213,6 +229,34 @@ duplicate_to k fd new flags three = on_files k (descriptors.duplicate_to k.files
 -- both ends of a pipe
 unfoldable pub pipe : Kernel → ℕ → Result (ℕ × ℕ) Errno × Kernel
 pipe k flags = on_files k (piping.pipe k.files (most_descriptors k) flags)
+
+-- sockets; a type stands in a word with flags
+unfoldable pub socket : Kernel → ℤ → ℕ → ℤ → Result ℕ Errno × Kernel
+socket k domain word protocol = on_files k (connecting.socket k.files (most_descriptors k) domain word protocol)
+
+unfoldable pub socket_pair : Kernel → ℤ → ℕ → ℤ → Result (ℕ × ℕ) Errno × Kernel
+socket_pair k domain word protocol = on_files k (connecting.socket_pair k.files (most_descriptors k) domain word protocol)
+
+unfoldable pub connect : Kernel → ℤ → List ℕ → Result ⊤ Errno × Kernel
+connect k fd name = on_files k (connecting.connect k.files fd name)
+
+unfoldable pub bind : Kernel → ℤ → List ℕ → Result ⊤ Errno × Kernel
+bind k fd name = on_files k (on_open_files k.files (unix_sockets.bind k.files.open_files fd name))
+
+unfoldable pub listen : Kernel → ℤ → ℤ → Result ⊤ Errno × Kernel
+listen k fd backlog = on_files k (on_open_files k.files (unix_sockets.listen k.files.open_files fd backlog))
+
+unfoldable pub accept : Kernel → ℤ → ℕ → Result Accepted Errno × Kernel
+accept k fd flags = on_files k (on_open_files k.files (accepting.accept k.files.open_files (most_descriptors k) fd flags))
+
+unfoldable pub shut : Kernel → ℤ → ℤ → Result ⊤ Errno × Kernel
+shut k fd how = on_files k (on_open_files k.files (unix_sockets.shut k.files.open_files fd how))
+
+unfoldable pub own_name : Kernel → ℤ → Result (List ℕ) Errno
+own_name k fd = unix_sockets.own_name k.files.open_files fd
+
+unfoldable pub peer_name : Kernel → ℤ → Result (List ℕ) Errno
+peer_name k fd = unix_sockets.peer_name k.files.open_files fd
 
 unfoldable pub fd_flags : Kernel → ℤ → Result ℕ Errno
 fd_flags k fd = flags_of.fd_flags k.files.open_files fd

@@ -11,5 +11,6 @@ mod pipes;
 mod readiness;
 mod sending;
 mod signals;
+mod sockets;
 mod status;
 mod timers;

@@ -4,6 +4,8 @@ use Rattle.kernel_values.specs.Outcome.{◌>>=◌}
 use Rattle.kernel_values.specs.declared.errno.Errno.{Errno}
 use Rattle.kernel_values.specs.declared.errno.Errno.TheVariants.{BadDescriptor}
 use Rattle.number_maps.specs.NumberMap.{at, put, removed}
+use Rattle.socket_tables.specs.Sockets as sockets
+use Rattle.socket_tables.specs.Sockets.{no_sockets}
 use Rattle.open_files.specs.Made.{more_made, one_opened}
 use Rattle.open_files.specs.declared.state.Descriptor.{Descriptor}
 use Rattle.open_files.specs.declared.state.OpenFile.{OpenFile}
@@ -11,7 +13,7 @@ use Rattle.open_files.specs.declared.state.OpenFiles.{OpenFiles}
 
 -- nothing is open, and nothing was made
 abbrev pub nothing_open : OpenFiles
-nothing_open = record { descriptors = []; files = []; pipes = []; made = record { things = 0; last_serial = 0 } }
+nothing_open = record { descriptors = []; files = []; pipes = []; sockets = no_sockets; made = record { things = 0; last_serial = 0 } }
 
 -- no descriptor is below 0, and none above 2^32 - 1
 unfoldable pub number_of : ℤ → Result ℕ Errno
@@ -57,6 +59,10 @@ without_descriptor s n = record s { descriptors = removed s.descriptors n }
 -- an open file is gone
 abbrev pub without_open_file : OpenFiles → ℕ → OpenFiles
 without_open_file s serial = record s { files = removed s.files serial }
+
+-- a socket ends with its open file
+abbrev pub without_socket : OpenFiles → ℕ → OpenFiles
+without_socket s serial = record s { sockets = sockets.without s.sockets serial }
 
 -- so many things were made
 abbrev pub counted : OpenFiles → ℕ → OpenFiles

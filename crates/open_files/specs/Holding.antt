@@ -1,7 +1,8 @@
 -- Which inodes open files hold, and what holds an open file.
-use Rattle.std.specs.Prelude.{ℕ, ◌==◌, ◌&&◌, Bool, List}
+use Rattle.std.specs.Prelude.{ℕ, ◌==◌, ◌&&◌, ◌||◌, Bool, List}
 use Rattle.std.specs.List.{list_any}
 use Rattle.std.specs.Map.{values_of}
+use Rattle.socket_tables.specs.Sockets as sockets
 use Rattle.open_files.specs.Kinds.{is_reader, is_writer}
 use Rattle.open_files.specs.declared.state.Descriptor.{Descriptor}
 use Rattle.open_files.specs.declared.state.OpenFile.{OpenFile}
@@ -23,6 +24,7 @@ has_writer files inode = list_any (λ (f : OpenFile). (f.inode == inode) && is_w
 unfoldable pub names : List (ℕ × Descriptor) → ℕ → Bool
 names descriptors serial = list_any (λ (d : Descriptor). d.serial == serial) (values_of descriptors)
 
--- An open file lasts while something holds it: a descriptor that names it.
+-- An open file lasts while something holds it: a descriptor that names it, a message that waits and carries it, or a listening socket in
+-- which it waits to be accepted.
 unfoldable pub is_held : OpenFiles → ℕ → Bool
-is_held s serial = names s.descriptors serial
+is_held s serial = names s.descriptors serial || sockets.is_held s.sockets.entries serial

@@ -43,6 +43,26 @@ is_of_socket Stream = true
 is_of_socket Datagram = true
 is_of_socket RuleSocket = true
 
+-- an open file is a socket of rule tables
+abbrev pub is_of_rules : OpenKind → Bool
+is_of_rules File = false
+is_of_rules Directory = false
+is_of_rules PipeRead = false
+is_of_rules PipeWrite = false
+is_of_rules Stream = false
+is_of_rules Datagram = false
+is_of_rules RuleSocket = true
+
+-- an open file is a datagram socket
+abbrev pub is_of_datagrams : OpenKind → Bool
+is_of_datagrams File = false
+is_of_datagrams Directory = false
+is_of_datagrams PipeRead = false
+is_of_datagrams PipeWrite = false
+is_of_datagrams Stream = false
+is_of_datagrams Datagram = true
+is_of_datagrams RuleSocket = false
+
 -- an open file has no position: pipes and sockets
 abbrev pub lacks_position : OpenKind → Bool
 lacks_position kind = is_of_pipe kind || is_of_socket kind

@@ -5,6 +5,9 @@ pub mod Descriptors
 pub mod Numbers
 pub mod Flags
 pub mod Transfers
+pub mod Sockets
+pub mod NewSockets
+pub mod Accepting
 pub mod Piping
 pub mod Items
 pub mod Readiness

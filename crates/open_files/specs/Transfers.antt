@@ -1,9 +1,16 @@
 -- Reads and writes of what is no file: pipes and sockets.
-use Rattle.std.specs.Prelude.{ℕ, pos, negsuc, Bool, true, false, List, [], ◌∷◌, drop, Result, Ok, Err}
+use Rattle.std.specs.Prelude.{ℕ, pos, negsuc, Bool, true, false, List, [], ◌∷◌, drop, None, Result, Ok, Err, if◌then◌else◌}
 use Rattle.kernel_values.specs.declared.errno.Errno.{Errno}
 use Rattle.kernel_values.specs.declared.errno.Errno.TheVariants.{IllegalSeek, InvalidArgument, OperationNotSupported}
+use Rattle.kernel_values.specs.declared.identity.Credentials.{Credentials}
 use Rattle.pipe_sock.specs.Pipes as pipes
+use Rattle.socket_tables.specs.Receiving.{reception}
+use Rattle.socket_tables.specs.Sending.{sending}
+use Rattle.socket_tables.specs.Sockets.{SocketsState}
+use Rattle.socket_tables.specs.declared.receiving.Reception.{Reception}
+use Rattle.socket_tables.specs.declared.sending.Outgoing.{Outgoing}
 use Rattle.open_files.specs.Holding.{has_reader, has_writer}
+use Rattle.open_files.specs.Kinds.{is_of_rules}
 use Rattle.open_files.specs.declared.state.OpenFile.{OpenFile}
 use Rattle.open_files.specs.declared.state.OpenFiles.{OpenFiles}
 use Rattle.open_files.specs.declared.state.Place.{Place}
@@ -39,7 +46,23 @@ abbrev pub write_pipe : OpenFiles → ℕ → ℕ → List ℕ → Place → Res
 write_pipe s inode wanted piece Current = on_pipes s (pipes.write s.pipes inode wanted piece (has_reader s.files inode))
 write_pipe s inode wanted piece (At n) = Err IllegalSeek
 
--- what refuses a transfer of a socket, which has no offsets either
-abbrev pub socket_refusal : Place → Errno
-socket_refusal Current = OperationNotSupported
-socket_refusal (At n) = IllegalSeek
+-- what sockets answer, and the open files with them
+abbrev pub with_sockets : {A : Type 0} → OpenFiles → Result (A × SocketsState) Errno → Result (A × OpenFiles) Errno
+with_sockets s (Ok x) = Ok (x.0, record s { sockets = x.1 })
+with_sockets s (Err e) = Err e
+
+-- what a socket gives: it has no offsets, and a socket of rule tables gives nothing
+unfoldable pub receive_socket : OpenFiles → ℕ × OpenFile → ℕ → ℕ → Place → Result (Reception × OpenFiles) Errno
+receive_socket s f wanted room (At n) = Err IllegalSeek
+receive_socket s f wanted room Current =
+    if is_of_rules f.1.kind then Err OperationNotSupported else with_sockets s (reception s.sockets f.0 wanted room)
+
+-- what a write sends: to no address, without open files, and with the credentials of its process
+abbrev pub plainly : Credentials → Outgoing
+plainly own = record { rights = []; sender = own }
+
+-- a write to a socket
+unfoldable pub write_socket : OpenFiles → Credentials → ℕ × OpenFile → ℕ → List ℕ → Place → Result (ℕ × OpenFiles) Errno
+write_socket s own f wanted piece (At n) = Err IllegalSeek
+write_socket s own f wanted piece Current =
+    if is_of_rules f.1.kind then Err OperationNotSupported else with_sockets s (sending s.sockets f.0 wanted piece None (plainly own))

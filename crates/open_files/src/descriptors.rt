@@ -11,6 +11,7 @@ use crate::state::{Descriptor, OpenFile, OpenFiles};
 use file_tables::{SlabMap, Table};
 use kernel_values::{Errno, OutOfMemory};
 use pipe_sock::Pipes;
+use socket_tables::Sockets;
 use std::alloc::Global;
 
 /// No number of a descriptor is as great.
@@ -36,6 +37,7 @@ impl OpenFiles {
             descriptors: Table::new(alloc),
             files: SlabMap::new(alloc),
             pipes: Pipes::new(alloc),
+            sockets: Sockets::new(alloc),
             made: Made::new(),
         }
     }

@@ -37,12 +37,13 @@ impl OpenFiles {
         false
     }
 
-    /// Whether something holds an open file, so that it lasts: a descriptor that names it.
+    /// Whether something holds an open file, so that it lasts: a descriptor that names it, a message that waits and carries it, or a
+    /// listening socket in which it waits. One look-up for each descriptor, and one pass over what sockets hold.
     #[tactic(auto, unfolding(crate::specs::Holding::is_held))]
     pub fn is_held(&self, serial: u64) -> bool
         ensures { result ≡ is_held self.now serial }
     {
-        self.names(serial)
+        self.names(serial) || self.sockets.hold(serial)
     }
 
     /// Whether some open file has an inode. One look-up for each open file.

@@ -1,7 +1,7 @@
 //! What an open file is of.
 
 ghost use Rattle.std.specs.Prelude.{◌≡◌};
-ghost use Rattle.open_files.specs.Kinds.{is_of_directory, is_of_file, is_of_pipe, is_of_socket, is_reader, is_writer, lacks_position};
+ghost use Rattle.open_files.specs.Kinds.{is_of_datagrams, is_of_directory, is_of_file, is_of_pipe, is_of_rules, is_of_socket, is_reader, is_writer, lacks_position};
 
 use kernel_values::OpenKind;
 
@@ -45,6 +45,28 @@ pub fn is_of_socket(kind: OpenKind) -> bool
     match kind {
         OpenKind::Stream | OpenKind::Datagram | OpenKind::RuleSocket => true,
         OpenKind::File | OpenKind::Directory => false,
+        OpenKind::PipeRead | OpenKind::PipeWrite => false,
+    }
+}
+
+/// Whether an open file is a socket of rule tables.
+pub(crate) fn is_of_rules(kind: OpenKind) -> bool
+    ensures { result ≡ is_of_rules kind }
+{
+    match kind {
+        OpenKind::RuleSocket => true,
+        OpenKind::File | OpenKind::Directory | OpenKind::Stream | OpenKind::Datagram => false,
+        OpenKind::PipeRead | OpenKind::PipeWrite => false,
+    }
+}
+
+/// Whether an open file is a datagram socket.
+pub(crate) fn is_of_datagrams(kind: OpenKind) -> bool
+    ensures { result ≡ is_of_datagrams kind }
+{
+    match kind {
+        OpenKind::Datagram => true,
+        OpenKind::File | OpenKind::Directory | OpenKind::Stream | OpenKind::RuleSocket => false,
         OpenKind::PipeRead | OpenKind::PipeWrite => false,
     }
 }

@@ -42,6 +42,15 @@ impl Made {
         self.things > MOST_MADE
     }
 
+    /// The last serial number given.
+    pub fn last_serial(&self) -> u64
+        ensures serial { result ≡ self.now.last_serial }
+        ensures limit { result < 2 ^ 31 }
+    {
+        let _things = self.things;
+        self.last_serial
+    }
+
     /// Counts an open file, and gives its serial number.
     pub fn open_one(&mut self) -> u64
         requires { HasRoom self.old 1 }

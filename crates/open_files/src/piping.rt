@@ -12,18 +12,18 @@ use kernel_values::{Errno, OpenFlags, OpenKind, OutOfMemory};
 use std::alloc::Global;
 
 /// `O_NONBLOCK` of `include/uapi/asm-generic/fcntl.h`.
-const NONBLOCK: u32 = 0x800;
+pub(crate) const NONBLOCK: u32 = 0x800;
 /// The flags of pipe2: that one, and `O_CLOEXEC`.
 const PIPE_FLAGS: u32 = 0x8_0800;
 
-fn is_pipe_flags(flags: u32) -> bool
+pub(crate) fn is_pipe_flags(flags: u32) -> bool
     ensures { result ≡ is_pipe_flags flags }
 {
     flags | PIPE_FLAGS == PIPE_FLAGS
 }
 
 /// Whether both ends of a pipe get the close-on-exec mark.
-fn marks_close(flags: u32) -> bool
+pub(crate) fn marks_close(flags: u32) -> bool
     ensures { result ≡ marks_close flags }
 {
     flags & CLOSE_ON_EXEC == CLOSE_ON_EXEC

@@ -2,9 +2,9 @@
 
 ghost use Rattle.std.specs.Prelude.{◌≡◌};
 ghost use Rattle.kernel_values.specs.Outcome.{Tells};
-ghost use Rattle.open_files.specs.Readiness.{ready, ready_for, ready_of, waiting_bytes};
+ghost use Rattle.open_files.specs.Readiness.{ready, ready_for, ready_of, ready_of_socket, bytes_in_socket, waiting_bytes, waiting_in};
+ghost use Rattle.number_maps.specs.NumberMap.{at};
 
-use crate::kinds::is_of_pipe;
 use crate::state::OpenFiles;
 use kernel_values::{Errno, OpenKind};
 
@@ -37,9 +37,23 @@ fn ready_for(input: bool, output: bool, error: bool, hang_up: bool) -> Ready
 }
 
 impl OpenFiles {
+    /// What a socket is ready for.
+    fn ready_of_socket(&self, serial: u64) -> Ready
+        ensures { result ≡ ready_of_socket self.now.sockets (at self.now.sockets.entries serial) }
+    {
+        match self.sockets.get(serial) {
+            Some(socket) => {
+                let input = self.sockets.has_input(socket);
+                let output = self.sockets.has_output(socket);
+                ready_for(input, output, false, self.sockets.has_hung_up(socket))
+            }
+            None => ready_for(false, false, false, false),
+        }
+    }
+
     #[tactic(auto, unfolding(crate::specs::Readiness::ready_of))]
-    fn ready_of(&self, inode: u64, kind: OpenKind) -> Ready
-        ensures { result ≡ ready_of self.now inode kind }
+    fn ready_of(&self, serial: u64, inode: u64, kind: OpenKind) -> Ready
+        ensures { result ≡ ready_of self.now serial inode kind }
     {
         match kind {
             OpenKind::File | OpenKind::Directory => ready_for(true, true, false, false),
@@ -51,7 +65,7 @@ impl OpenFiles {
                 let output = self.pipes.free_room(inode) >= PIPE_BUF;
                 ready_for(false, output, !self.has_reader(inode), false)
             }
-            OpenKind::Stream | OpenKind::Datagram => ready_for(false, false, false, false),
+            OpenKind::Stream | OpenKind::Datagram => self.ready_of_socket(serial),
             OpenKind::RuleSocket => ready_for(false, true, false, false),
         }
     }
@@ -61,19 +75,38 @@ impl OpenFiles {
     pub fn ready(&self, fd: i64) -> Result<Ready, Errno>
         ensures { Tells result (ready self.now fd) }
     {
-        let (_, file) = self.open_file(fd)?;
-        Ok(self.ready_of(file.inode, file.kind))
+        let (serial, file) = self.open_file(fd)?;
+        Ok(self.ready_of(serial, file.inode, file.kind))
     }
 
-    /// FIONREAD: how many bytes wait in a pipe, at either of its ends. EBADF; ENOTTY for all else. It takes no memory.
+    /// How many bytes wait in a socket.
+    fn bytes_in_socket(&self, serial: u64) -> Result<u32, Errno>
+        ensures { Tells result (bytes_in_socket (at self.now.sockets.entries serial)) }
+    {
+        match self.sockets.get(serial) {
+            Some(socket) => Ok(socket.bytes_waiting()),
+            None => Err(Errno::NotTerminal),
+        }
+    }
+
+    #[tactic(auto, unfolding(crate::specs::Readiness::waiting_in))]
+    fn waiting_in(&self, serial: u64, inode: u64, kind: OpenKind) -> Result<u32, Errno>
+        ensures { Tells result (waiting_in self.now serial inode kind) }
+    {
+        match kind {
+            OpenKind::PipeRead | OpenKind::PipeWrite => Ok(self.pipes.waiting(inode) as u32),
+            OpenKind::Stream | OpenKind::Datagram => self.bytes_in_socket(serial),
+            OpenKind::File | OpenKind::Directory | OpenKind::RuleSocket => Err(Errno::NotTerminal),
+        }
+    }
+
+    /// FIONREAD: how many bytes wait in a pipe, at either of its ends, or in a Unix socket: in a stream all of them, in a datagram socket
+    /// those of the first message. EBADF; ENOTTY for all else. It takes no memory.
     #[tactic(auto, unfolding(crate::specs::Readiness::waiting_bytes))]
     pub fn waiting_bytes(&self, fd: i64) -> Result<u32, Errno>
         ensures { Tells result (waiting_bytes self.now fd) }
     {
-        let (_, file) = self.open_file(fd)?;
-        if !is_of_pipe(file.kind) {
-            return Err(Errno::NotTerminal);
-        }
-        Ok(self.pipes.waiting(file.inode) as u32)
+        let (serial, file) = self.open_file(fd)?;
+        self.waiting_in(serial, file.inode, file.kind)
     }
 }

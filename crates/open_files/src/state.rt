@@ -4,6 +4,7 @@ use crate::made::Made;
 use file_tables::{SlabMap, Table};
 use kernel_values::{OpenFlags, OpenKind};
 use pipe_sock::Pipes;
+use socket_tables::Sockets;
 
 /// A descriptor.
 #[derive(Clone, Copy, Debug)]
@@ -44,6 +45,8 @@ pub struct OpenFiles {
     pub(crate) files: SlabMap<OpenFile>,
     /// The bytes that wait in pipes, by inode number.
     pub(crate) pipes: Pipes,
+    /// Unix sockets, by the serial numbers of their open files.
+    pub(crate) sockets: Sockets,
     /// How many things were made: inodes and names too, which stand elsewhere.
     pub(crate) made: Made,
 }

@@ -1,13 +1,18 @@
 //! Reads and writes of what is no file: pipes and sockets.
 
-ghost use Rattle.std.specs.Prelude.{◌≡◌, ◌<◌, ◌≤◌, true, length, take, IfOk, OnErr, OnOk, Ok};
+ghost use Rattle.std.specs.Prelude.{◌≡◌, ◌+◌, ◌^◌, ◌<◌, ◌≤◌, true, length, take, IfOk, OnErr, OnOk, Ok};
 ghost use Rattle.kernel_values.specs.Outcome.{Gives, GivesAlways, OnOutOfMemory, Tells, settled};
-ghost use Rattle.open_files.specs.Transfers.{moves_bytes, place_of, read_pipe, socket_refusal, with_bytes_taken, write_pipe};
+ghost use Rattle.open_files.specs.Transfers.{moves_bytes, place_of, read_pipe, receive_socket, with_bytes_taken, write_pipe, write_socket};
 ghost use Rattle.pipe_sock.specs.Pipes.{waiting};
+ghost use Rattle.socket_tables.specs.Receiving.{gives_bytes};
+ghost use Rattle.socket_tables.specs.Sockets.{total_held};
 
+use crate::kinds::is_of_rules;
 use crate::state::{OpenFile, OpenFiles, Place};
-use kernel_values::{Answer, Errno, KernelFault, OutOfMemory};
+use kernel_values::{Answer, Credentials, Errno, KernelFault, OutOfMemory};
+use socket_tables::{Outgoing, Reception};
 use std::alloc::Global;
+use std::collections::LinkedList;
 
 /// Where a transfer of a file begins. EINVAL below 0.
 pub fn place_of(file: &OpenFile, place: Place) -> Result<u64, Errno>
@@ -21,16 +26,6 @@ pub fn place_of(file: &OpenFile, place: Place) -> Result<u64, Errno>
             }
             Ok(offset as u64)
         }
-    }
-}
-
-/// What refuses a transfer of a socket: EOPNOTSUPP, and ESPIPE for a place in it.
-pub fn socket_refusal(place: Place) -> Errno
-    ensures { result ≡ socket_refusal place }
-{
-    match place {
-        Place::Current => Errno::OperationNotSupported,
-        Place::At(_) => Errno::IllegalSeek,
     }
 }
 
@@ -98,6 +93,65 @@ impl OpenFiles {
             Place::Current => {
                 let has_reader = self.has_reader(inode);
                 self.pipes.write(inode, wanted, piece, has_reader)
+            }
+            Place::At(_) => Err(KernelFault::Errno(Errno::IllegalSeek)),
+        }
+    }
+
+    /// Receives on a socket, as `Sockets::receive` does. ESPIPE for a place in it; EOPNOTSUPP for a socket of rule tables.
+    #[tactic(auto, unfolding(crate::specs::Transfers::receive_socket))]
+    pub fn receive_socket(
+        &mut self,
+        alloc: Global,
+        serial: u64,
+        file: OpenFile,
+        wanted: u64,
+        room: u64,
+        place: Place,
+    ) -> Answer<Reception>
+        ensures gives { Gives (λ r. r) result self.new (settled self.old (receive_socket self.old (serial, file) wanted room place)) }
+        ensures count { IfOk result (λ r. length r.bytes ≤ wanted) }
+        ensures space { IfOk result (λ r. length r.bytes ≤ room) }
+        ensures few { IfOk result (λ r. length r.rights + total_held self.new.sockets.entries < 2 ^ 62) }
+        ensures moves { OnOutOfMemory result (gives_bytes (settled self.old (receive_socket self.old (serial, file) wanted room place)).0 ≡ true) }
+    {
+        match place {
+            Place::Current => {
+                if is_of_rules(file.kind) {
+                    return Err(KernelFault::Errno(Errno::OperationNotSupported));
+                }
+                self.sockets.receive(alloc, serial, wanted, room)
+            }
+            Place::At(_) => Err(KernelFault::Errno(Errno::IllegalSeek)),
+        }
+    }
+
+    /// Writes to a socket, as `Sockets::send` does, to no address and with the credentials of the process. ESPIPE for a place in it;
+    /// EOPNOTSUPP for a socket of rule tables.
+    #[tactic(auto, unfolding(crate::specs::Transfers::write_socket))]
+    pub fn write_socket(
+        &mut self,
+        alloc: Global,
+        own: Credentials,
+        serial: u64,
+        file: OpenFile,
+        wanted: u64,
+        piece: &[u8],
+        place: Place,
+    ) -> Answer<u64>
+        ensures gives { Gives (λ n. n) result self.new (settled self.old (write_socket self.old own (serial, file) wanted piece.now place)) }
+        ensures count { IfOk result (λ n. n ≤ wanted) }
+    {
+        match place {
+            Place::Current => {
+                if is_of_rules(file.kind) {
+                    return Err(KernelFault::Errno(Errno::OperationNotSupported));
+                }
+                let sent = Outgoing {
+                    rights: LinkedList::new(alloc),
+                    sender: own,
+                };
+                self.sockets.send(alloc, serial, wanted, piece, None, sent)
             }
             Place::At(_) => Err(KernelFault::Errno(Errno::IllegalSeek)),
         }

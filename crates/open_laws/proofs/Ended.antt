@@ -17,14 +17,14 @@ use Rattle.map_lemmas.proofs.Maps.{ascending_removed, at_removed_apart, every_re
 module _ (s : OpenFiles) (n : ℕ) (d : Descriptor) (sound : IsSound s) (there : at s.descriptors n ≡ Some d) (held : is_held (without_descriptor s n) d.serial ≡ true) where
   still_named : (serial : ℕ) → names s.descriptors serial ≡ true → names (removed s.descriptors n) serial ≡ true
   still_named serial h = elim (one_or_other serial d.serial) [
-    | inl same ↦ ap (names (removed s.descriptors n)) same ∙ held_names (without_descriptor s n) d.serial true held
+    | inl same ↦ ap (names (removed s.descriptors n)) same ∙ held_names (without_descriptor s n) d.serial true sound.sockets held
     | inr other ↦ names_removed s.descriptors n d serial sound.ascend.descriptors there other h
   ]
 
   still_file : (serial : ℕ) (f : OpenFile) → at s.files serial ≡ Some f → IsSoundFile (without_descriptor s n) serial f
   still_file serial f h =
       let e : IsSoundFile s serial f = sound.files serial f h in
-      record { held = held_is (without_descriptor s n) serial (still_named serial (held_names s serial true e.held)); positive = e.positive; given = e.given; ends = e.ends; position = e.position }
+      record { held = held_is (without_descriptor s n) serial (still_named serial (held_names s serial true sound.sockets e.held)); positive = e.positive; given = e.given; ends = e.ends; position = e.position }
 
   unnamed_kept : IsSound (without_descriptor s n)
   unnamed_kept = record {
@@ -33,6 +33,7 @@ module _ (s : OpenFiles) (n : ℕ) (d : Descriptor) (sound : IsSound s) (there :
     files = still_file;
     pipes = λ inode bytes h. let e : IsSoundPipe s inode bytes = sound.pipes inode bytes h in record { opened = e.opened; waits = e.waits };
     made = sound.made;
+    sockets = sound.sockets;
   }
 
 pub unnamed_is_sound : UnnamedIsSound
@@ -47,7 +48,7 @@ module _ (s : OpenFiles) (n : ℕ) (d : Descriptor) (f : OpenFile) (sound : IsSo
   left_file serial x other h =
       let e : IsSoundFile s serial x = sound.files serial x h in
       record {
-        held = held_is after serial (names_removed s.descriptors n d serial sound.ascend.descriptors last.named other (held_names s serial true e.held));
+        held = held_is after serial (names_removed s.descriptors n d serial sound.ascend.descriptors last.named other (held_names s serial true sound.sockets e.held));
         positive = e.positive;
         given = e.given;
         ends = e.ends;
@@ -57,7 +58,7 @@ module _ (s : OpenFiles) (n : ℕ) (d : Descriptor) (f : OpenFile) (sound : IsSo
   other_serial : (m : ℕ) (x : Descriptor) → m ≢ n → at s.descriptors m ≡ Some x → x.serial ≢ d.serial
   other_serial m x apart h same =
       let named : names (removed s.descriptors n) d.serial ≡ true = names_at (removed s.descriptors n) m d.serial x (at_removed_apart s.descriptors m n apart ∙ h) same in
-      let none : names (removed s.descriptors n) d.serial ≡ false = held_names (without_descriptor s n) d.serial false last.last in
+      let none : names (removed s.descriptors n) d.serial ≡ false = held_names (without_descriptor s n) d.serial false sound.sockets last.last in
       cc
 
   left_descriptor : (m : ℕ) (x : Descriptor) → m ≢ n → at s.descriptors m ≡ Some x → NamesThere after m x
@@ -84,6 +85,7 @@ module _ (s : OpenFiles) (n : ℕ) (d : Descriptor) (f : OpenFile) (sound : IsSo
     files = every_removed (λ q x. IsSoundFile after q x) s.files d.serial sound.ascend.files left_file;
     pipes = pipes;
     made = sound.made;
+    sockets = sound.sockets;
   }
 
   gone_kept : is_of_pipe f.kind ≡ false → IsSound after
@@ -113,6 +115,7 @@ module _ (s : OpenFiles) (n : ℕ) (d : Descriptor) (f : OpenFile) (sound : IsSo
     files = every_removed (λ q x. IsSoundFile dry q x) s.files d.serial sound.ascend.files (dry_file closed);
     pipes = every_removed (λ i b. IsSoundPipe dry i b) s.pipes f.inode sound.ascend.pipes (λ i b other h. let e : IsSoundPipe after i b = left_pipe i b other h in record { opened = e.opened; waits = e.waits });
     made = sound.made;
+    sockets = sound.sockets;
   }
 
   drained_case : (b : Bool) → is_open after.files f.inode ≡ b → IsSound (cond b after dry)

@@ -1,7 +1,9 @@
 -- Which open files descriptors name, and which inodes open files have, by the entries of their maps.
-use Rattle.std.proofs.Common.{◌≡◌, ◌≢◌, ◌∙◌, ℕ, ◌==◌, Bool, true, List, Some, inl, inr, ap, sym, arith}
+use Rattle.std.proofs.Common.{◌≡◌, ◌≢◌, ◌∙◌, ℕ, ◌==◌, ◌||◌, Bool, true, false, List, Some, inl, inr, refl, ap, sym, arith}
 use Rattle.std.proofs.lemmas.Grind.{common_steps}
 use Rattle.number_maps.specs.NumberMap.{IsAscending, at, put, removed}
+use Rattle.socket_tables.specs.Sockets as sockets
+use Rattle.socket_tables.specs.Sockets.{no_sockets}
 use Rattle.open_files.specs.Holding.{is_held, is_open, names}
 use Rattle.open_files.specs.declared.state.Descriptor.{Descriptor}
 use Rattle.open_files.specs.declared.state.OpenFile.{OpenFile}
@@ -38,11 +40,16 @@ names_found t serial s h =
 
 pub held_is : (s : OpenFiles) (serial : ℕ) → names s.descriptors serial ≡ true → is_held s serial ≡ true
 unfolding is_held
-held_is s serial h = h
+held_is s serial h = rw h refl
 
-pub held_names : (s : OpenFiles) (serial : ℕ) (b : Bool) → is_held s serial ≡ b → names s.descriptors serial ≡ b
-unfolding is_held
-held_names s serial b h = h
+or_none : (a : Bool) → (a || false) ≡ a
+or_none true = refl
+or_none false = refl
+
+-- where no socket was made, descriptors alone hold open files
+pub held_names : (s : OpenFiles) (serial : ℕ) (b : Bool) → s.sockets ≡ no_sockets → is_held s serial ≡ b → names s.descriptors serial ≡ b
+unfolding is_held sockets.is_held
+held_names s serial b none h = sym (rw none (or_none (names s.descriptors serial))) ∙ h
 
 -- a descriptor in the place of none, or of one of the same open file
 pub names_put : (t : List (ℕ × Descriptor)) (n : ℕ) (d : Descriptor) (serial : ℕ) → IsAscending t → ((old : Descriptor) → at t n ≡ Some old → old.serial ≡ d.serial) → names t serial ≡ true → names (put t n d) serial ≡ true

@@ -7,6 +7,7 @@ use Rattle.kernel_values.specs.declared.errno.Errno.{Errno}
 use Rattle.kernel_values.specs.declared.errno.Errno.TheVariants.{InvalidArgument, TableFull}
 use Rattle.kernel_values.specs.declared.items.OpenKind.TheVariants.{PipeRead, PipeWrite}
 use Rattle.number_maps.specs.NumberMap.{at, put}
+use Rattle.socket_tables.specs.Sockets.{no_sockets}
 use Rattle.open_files.specs.Descriptors.{counted, installed}
 use Rattle.open_files.specs.Holding.{is_held, is_open}
 use Rattle.open_files.specs.Made.{HasRoom, is_full}
@@ -30,6 +31,7 @@ nothing_open_is_sound = record {
   files = λ n f h. absurd (let e : None ≡ Some f = h in cc);
   pipes = λ n b h. absurd (let e : None ≡ Some b = h in cc);
   made = record { serials = omega arith; things = omega arith };
+  sockets = refl;
 }
 
 counted_file : (s : OpenFiles) (things n : ℕ) (f : OpenFile) → IsSoundFile s n f → IsSoundFile (counted s things) n f
@@ -43,6 +45,7 @@ counted_is_sound s things sound room = record {
   files = λ n f h. counted_file s things n f (sound.files n f h);
   pipes = λ n b h. let e : IsSoundPipe s n b = sound.pipes n b h in record { opened = e.opened; waits = e.waits };
   made = (let m : IsCounted s.made = sound.made in record { serials = omega arith; things = room });
+  sockets = sound.sockets;
 }
 
 -- ---- sound but for some pipes, which may have no open file yet
@@ -52,6 +55,8 @@ pub record IsSoundWhere (needs : ℕ → Type 0) (s : OpenFiles) : Type 0 where
   pub files : (serial : ℕ) (f : OpenFile) → at s.files serial ≡ Some f → IsSoundFile s serial f
   pub pipes : (inode : ℕ) (bytes : List ℕ) → needs inode → at s.pipes inode ≡ Some bytes → IsSoundPipe s inode bytes
   pub made : IsCounted s.made
+  -- no socket was made
+  pub sockets : s.sockets ≡ no_sockets
 
 module _ (needs : ℕ → Type 0) (s : OpenFiles) (n : ℕ) (file : OpenFile) (cloexec : Bool) (sound : IsSoundWhere needs s) (may : MayOpen s n file) where
   abbrev serial : ℕ
@@ -72,7 +77,7 @@ module _ (needs : ℕ → Type 0) (s : OpenFiles) (n : ℕ) (file : OpenFile) (c
   old_file : (q : ℕ) (f : OpenFile) → at s.files q ≡ Some f → IsSoundFile after q f
   old_file q f h =
       let e : IsSoundFile s q f = sound.files q f h in
-      let named = held_names s q true e.held in
+      let named = held_names s q true sound.sockets e.held in
       record {
         held = held_is after q (names_put s.descriptors n new q sound.ascend.descriptors none_named named);
         positive = e.positive;
@@ -102,6 +107,7 @@ module _ (needs : ℕ → Type 0) (s : OpenFiles) (n : ℕ) (file : OpenFile) (c
     files = every_put (λ q f. IsSoundFile after q f) s.files serial file (λ q f other h. old_file q f h) new_file;
     pipes = λ inode bytes need h. let e : IsSoundPipe s inode bytes = sound.pipes inode bytes need h in record { opened = open_put s.files serial file inode sound.ascend.files none_there e.opened; waits = e.waits };
     made = (let m : IsCounted s.made = sound.made in record { serials = omega arith; things = may.room });
+    sockets = sound.sockets;
   }
 
 every_pipe : ℕ → Type 0
@@ -110,8 +116,8 @@ every_pipe inode = Unit {0}
 pub installed_is_sound : InstalledIsSound
 unfolding every_pipe
 installed_is_sound s n file cloexec sound may =
-    let e : IsSoundWhere every_pipe (installed s n file cloexec) = installed_kept every_pipe s n file cloexec (record { ascend = sound.ascend; descriptors = sound.descriptors; files = sound.files; pipes = λ inode bytes need h. sound.pipes inode bytes h; made = sound.made }) may in
-    record { ascend = e.ascend; descriptors = e.descriptors; files = e.files; pipes = λ inode bytes h. e.pipes inode bytes tt h; made = e.made }
+    let e : IsSoundWhere every_pipe (installed s n file cloexec) = installed_kept every_pipe s n file cloexec (record { ascend = sound.ascend; descriptors = sound.descriptors; files = sound.files; pipes = λ inode bytes need h. sound.pipes inode bytes h; made = sound.made; sockets = sound.sockets }) may in
+    record { ascend = e.ascend; descriptors = e.descriptors; files = e.files; pipes = λ inode bytes h. e.pipes inode bytes tt h; made = e.made; sockets = e.sockets }
 
 -- ---- a pipe
 module _ (s : OpenFiles) (inode : ℕ) (sound : IsSound s) (room : HasRoom s.made 1) (free : is_open s.files inode ≡ false) where
@@ -140,6 +146,7 @@ module _ (s : OpenFiles) (inode : ℕ) (sound : IsSound s) (room : HasRoom s.mad
     files = empty_file;
     pipes = λ i bytes other h. let e : IsSoundPipe s i bytes = sound.pipes i bytes (sym (at_put_apart s.pipes i inode [] other) ∙ h) in record { opened = e.opened; waits = e.waits };
     made = (let m : IsCounted s.made = sound.made in record { serials = omega arith; things = room });
+    sockets = sound.sockets;
   }
 
 some_left : (things : ℕ) → nat_lt (2 ^ 31 - 5) things ≡ false → things + 3 < 2 ^ 31
@@ -216,6 +223,7 @@ module _ (s : OpenFiles) (limit flags : ℕ) (n : ℕ × ℕ) (inode : ℕ) (sou
           | inr other ↦ e.pipes i bytes other h
         ];
         made = e.made;
+        sockets = e.sockets;
       }
 
 pub made_pipe_is_sound : MadePipeIsSound

@@ -25,7 +25,7 @@ module _ (s : OpenFiles) (n : ℕ) (d : Descriptor) (sound : IsSound s) (may : M
   named_file serial f h =
       let e : IsSoundFile s serial f = sound.files serial f h in
       record {
-        held = held_is (with_descriptor s n d) serial (names_put s.descriptors n d serial sound.ascend.descriptors may.same (held_names s serial true e.held));
+        held = held_is (with_descriptor s n d) serial (names_put s.descriptors n d serial sound.ascend.descriptors may.same (held_names s serial true sound.sockets e.held));
         positive = e.positive;
         given = e.given;
         ends = e.ends;
@@ -39,6 +39,7 @@ module _ (s : OpenFiles) (n : ℕ) (d : Descriptor) (sound : IsSound s) (may : M
     files = named_file;
     pipes = λ inode bytes h. let e : IsSoundPipe s inode bytes = sound.pipes inode bytes h in record { opened = e.opened; waits = e.waits };
     made = sound.made;
+    sockets = sound.sockets;
   }
 
 pub named_is_sound : NamedIsSound
@@ -102,6 +103,7 @@ module _ (s : OpenFiles) (serial : ℕ) (f g : OpenFile) (sound : IsSound s) (ma
     files = every_put (λ q x. IsSoundFile (with_open_file s serial g) q x) s.files serial g (λ q x other h. other_file q x h) changed_file;
     pipes = λ inode bytes h. let e : IsSoundPipe s inode bytes = sound.pipes inode bytes h in record { opened = open_put s.files serial g inode sound.ascend.files keeps_inode e.opened; waits = e.waits };
     made = sound.made;
+    sockets = sound.sockets;
   }
 
 pub changed_is_sound : ChangedIsSound

@@ -41,6 +41,7 @@ module _ (s : OpenFiles) (inode : ℕ) (old bytes : List ℕ) (sound : IsSound s
     files = kept_file;
     pipes = every_changed (λ i b. IsSoundPipe other i b) s.pipes inode old bytes there (λ i b apart h. kept_pipe i b h) (record { opened = (sound.pipes inode old there).opened; waits = few });
     made = sound.made;
+    sockets = sound.sockets;
   }
 
 refilled_case : (s : OpenFiles) (inode : ℕ) (bytes : List ℕ) (o : Option (List ℕ)) → IsSound s → at s.pipes inode ≡ o → length bytes ≤ 65536 → IsSound (with_pipes s (pipes.refilled_as s.pipes inode bytes o))

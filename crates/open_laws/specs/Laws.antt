@@ -1,4 +1,4 @@
--- The laws: what keeps the open files sound, and what follows where they are.
+-- The laws: what keeps the open files sound, and what follows where they are. No socket was made in a sound state.
 use Rattle.std.specs.Prelude.{◌≡◌, ◌≤◌, ◌<◌, ◌^◌, ◌+◌, ◌||◌, ℕ, ℤ, Bool, true, false, List, Some, None, is_ok, Ok}
 use Rattle.kernel_values.specs.declared.open_flags.OpenFlags.{OpenFlags}
 use Rattle.number_maps.specs.NumberMap.{at}

@@ -1,9 +1,10 @@
--- What holds in every state of the open files.
+-- What holds in every state of the open files in which no socket was made.
 use Rattle.std.specs.Prelude.{◌≡◌, ◌<◌, ◌≤◌, ◌^◌, ℕ, Bool, true, is_some, List, length, Some}
 use Rattle.kernel_values.specs.Bounds.{most_file_bytes, most_narrow}
 use Rattle.kernel_values.specs.declared.items.OpenKind.{OpenKind}
 use Rattle.kernel_values.specs.declared.items.OpenKind.TheVariants.{File, Directory, PipeRead, PipeWrite, Stream, Datagram, RuleSocket}
 use Rattle.number_maps.specs.NumberMap.{IsAscending, at}
+use Rattle.socket_tables.specs.Sockets.{no_sockets}
 use Rattle.open_files.specs.Holding.{is_held, is_open}
 use Rattle.open_files.specs.Kinds.{is_of_pipe}
 use Rattle.open_files.specs.Made.{MadeState}
@@ -55,10 +56,12 @@ pub record IsCounted (m : MadeState) : Type 0 where
   pub serials : m.last_serial ≤ m.things
   pub things : m.things < 2 ^ 31
 
--- the open files are sound
+-- the open files are sound, and no socket was made
 pub record IsSound (s : OpenFiles) : Type 0 where
   pub ascend : MapsAscend s
   pub descriptors : (number : ℕ) (d : Descriptor) → at s.descriptors number ≡ Some d → NamesThere s number d
   pub files : (serial : ℕ) (f : OpenFile) → at s.files serial ≡ Some f → IsSoundFile s serial f
   pub pipes : (inode : ℕ) (bytes : List ℕ) → at s.pipes inode ≡ Some bytes → IsSoundPipe s inode bytes
   pub made : IsCounted s.made
+  -- no socket was made
+  pub sockets : s.sockets ≡ no_sockets

@@ -1,5 +1,6 @@
-//! Laws of open files: what holds in every state of them, what keeps it, and what follows. A function here has no code: its
-//! contract is the law, proved of every state that meets the premises that the law names.
+//! Laws of open files: what holds in every state of them in which no socket was made, what keeps it, and what follows. Such a
+//! state is called sound here. A function here has no code: its contract is the law, proved of every state that meets the
+//! premises that the law names.
 #![tactic(auto)]
 
 ghost use Rattle.open_laws.specs.Laws.{ChangedIsSound, CopyHasNewNumber, CountedIsSound, DescriptorHasOpenFile, DrainedIsSound, DuplicateIsSound, GoneIsSound, InstalledIsSound, MadePipeIsSound, NamedIsSound, NextSerialIsFree, NothingOpenIsSound, PairHasNewNumbers, PipeHasAnEnd, ReadPipeIsSound, SetFdFlagsIsSound, SetOpenFlagsIsSound, TakenIsSound, UnnamedIsSound, WritePipeIsSound};

@@ -9,6 +9,7 @@ use Rattle.number_maps.specs.NumberMap.{IsAscending, at, removed}
 use Rattle.file_tree.specs.Removing.{let_go, without_locks_on}
 use Rattle.file_tables.specs.Nodes.{stays_as}
 use Rattle.file_tree.specs.declared.state.FileTree.{FileTree}
+use Rattle.socket_tables.specs.Sockets.{SocketsState, held_by, no_sockets, without}
 use Rattle.open_files.specs.Descriptors.{descriptor_of, number_of, with_descriptor, without_descriptor, without_open_file}
 use Rattle.open_files.specs.Holding.{is_held, is_open}
 use Rattle.open_files.specs.Kinds.{is_of_pipe}
@@ -23,14 +24,35 @@ use Rattle.open_laws.proofs.Named.{named_is_sound}
 use Rattle.map_lemmas.proofs.Steps.{both_answered, kept_by_settled, not_refused, same_answer}
 use Rattle.file_store.specs.Closing.{close_all, closed_times, lowest_closed}
 use Rattle.file_store.specs.Descriptors.{closed, is_dup_flags, is_number, vacated}
-use Rattle.file_store.specs.Releasing.{let_go_of, released, without_locks}
+use Rattle.file_store.specs.Releasing.{all_swept, ended, ended_as, held_in, let_go_of, released, without_locks}
 use Rattle.file_store.specs.declared.state.Files.{Files}
+use Rattle.file_store.proofs.Sweepings.{nothing_swept, sockets_stay}
 use Rattle.sound_files.specs.Laws.{CloseAllIsSound, CloseIsSound, DuplicateToIsSound}
 use Rattle.sound_files.specs.Sound.{Belongs, IsSound}
 use Rattle.sound_files.proofs.Changes.{unlocked_same}
 use Rattle.sound_files.proofs.Opened.{let_go_left, pipe_left}
 use Rattle.sound_files.proofs.Trees.{belongs_still}
 use Rattle.sound_files.proofs.Views.{same_suits}
+
+-- ---- where no socket was made, an open file that goes is all that goes
+absent : (t : SocketsState) (serial : ℕ) → t ≡ no_sockets → without t serial ≡ t
+unfolding without
+absent t serial none = subst (λ (x : SocketsState). without x serial ≡ x) (sym none) refl
+
+ended_alone : (s : Files) (serial : ℕ) → s.open_files.sockets ≡ no_sockets → ended s serial ≡ ended_as s serial (at s.open_files.files serial)
+unfolding ended
+ended_alone s serial none =
+    let t : Files = ended_as s serial (at s.open_files.files serial) in
+    ap (λ (x : SocketsState). record t { open_files = record t.open_files { sockets = x } }) (absent t.open_files.sockets serial (sockets_stay s serial (at s.open_files.files serial) ∙ none))
+
+swept_alone : (s : Files) (serial : ℕ) → s.open_files.sockets ≡ no_sockets → all_swept (ended s serial) (held_in s serial) ≡ ended_as s serial (at s.open_files.files serial)
+swept_alone s serial none =
+    let nothing : held_in s serial ≡ [] = ap (λ (x : SocketsState). held_by x.entries serial) none in
+    ap (all_swept (ended s serial)) nothing ∙ nothing_swept (ended s serial) ∙ ended_alone s serial none
+
+released_alone : (s : Files) (serial : ℕ) → s.open_files.sockets ≡ no_sockets → released s serial ≡ cond (is_held s.open_files serial) s (ended_as s serial (at s.open_files.files serial))
+unfolding released
+released_alone s serial none = ap (λ (t : Files). cond (is_held s.open_files serial) s t) (swept_alone s serial none)
 
 -- what a close left
 pub record IsClosed (s : Files) (n : ℕ) (after : Files) : Type 0 where
@@ -119,8 +141,8 @@ module _ (s : Files) (n : ℕ) (d : Descriptor) (f : OpenFile) (sound : IsSound 
   held_case false last = last_case (is_of_pipe f.kind) refl last
 
   closed_here : IsClosed s n (closed s n d.serial)
-  unfolding closed without_locks released let_go_of
-  closed_here = rw (there, there) (held_case (is_held open_files d.serial) refl)
+  unfolding closed without_locks let_go_of
+  closed_here = rw there (subst (IsClosed s n) (sym (released_alone unlocked d.serial sound.open_files.sockets)) (rw there (held_case (is_held open_files d.serial) refl)))
 
 pub is_closed : (s : Files) (n : ℕ) (d : Descriptor) → IsSound s → IsAscending s.tree.nodes → at s.open_files.descriptors n ≡ Some d → IsClosed s n (closed s n d.serial)
 is_closed s n d sound ascend named =

@@ -6,6 +6,7 @@ use Rattle.kernel_values.specs.OpenFlags.{appends, can_read, can_write}
 use Rattle.kernel_values.specs.Outcome.{◌>>=◌, ◌>>◌, refused_if, settled}
 use Rattle.kernel_values.specs.declared.errno.Errno.{Errno}
 use Rattle.kernel_values.specs.declared.errno.Errno.TheVariants.{BadAddress, BadDescriptor, BrokenPipe, InvalidArgument, TryAgain}
+use Rattle.kernel_values.specs.declared.identity.Credentials.{Credentials}
 use Rattle.kernel_values.specs.declared.items.OpenKind.{OpenKind}
 use Rattle.kernel_values.specs.declared.items.OpenKind.TheVariants.{File, Directory, PipeRead, PipeWrite, Stream, Datagram, RuleSocket}
 use Rattle.kernel_values.specs.declared.times.TimeSpec.{TimeSpec}
@@ -89,8 +90,8 @@ module _ (s : Files) (now : TimeSpec) (wanted : ℕ) (piece : List ℕ) where
     moved = λ f place start there most small. record { few = omega arith; kinds = moved_kinds s (filled s now wanted piece f start) f place (start + moves s now wanted piece f start) refl there };
   }
 
-  wrote : (fd : ℤ) (place : Place) (n : ℕ) → (write s now fd wanted piece place).0 ≡ Ok n → Wrote s wanted n (write s now fd wanted piece place).1
-  wrote fd place n h = write_case s now wanted piece (λ m after. Wrote s wanted m after) writes fd place n (write s now fd wanted piece place).1 (operation_answered s (open_file s.open_files fd >>= write_of s now wanted piece place) n h)
+  wrote : (own : Credentials) (sound : IsSound s) (fd : ℤ) (place : Place) (n : ℕ) → (write s now own fd wanted piece place).0 ≡ Ok n → Wrote s wanted n (write s now own fd wanted piece place).1
+  wrote own sound fd place n h = write_case s now wanted piece (λ m after. Wrote s wanted m after) writes own sound fd place n (write s now own fd wanted piece place).1 (operation_answered s (open_file s.open_files fd >>= write_of s now wanted piece own place) n h)
 
 -- ---- the source
 pub record IsSource (s : Files) (place : Place) (x : (ℕ × OpenFile) × (ℕ × ℕ)) : Type 0 where
@@ -164,12 +165,12 @@ few_taken count xs = grind (arith, common_steps)
 sum_range : (start n count asked size most : ℕ) → start ≤ most → n ≤ count → count ≡ min asked (size - start) → size ≤ most → start + n ≤ most
 sum_range start n count asked size most a b c d = omega arith
 
-module _ (s : Files) (now : TimeSpec) (target : ℤ) (place : Place) (sound : IsSound s) (sizes : HasSizes s.tree) (x : (ℕ × OpenFile) × (ℕ × ℕ)) (source : IsSource s place x) where
+module _ (s : Files) (now : TimeSpec) (own : Credentials) (target : ℤ) (place : Place) (sound : IsSound s) (sizes : HasSizes s.tree) (x : (ℕ × OpenFile) × (ℕ × ℕ)) (source : IsSource s place x) where
   abbrev bytes : List ℕ
   bytes = bytes_from s x.0.1.inode x.1.0 x.1.1
 
   abbrev after : Result ℕ Errno × Files
-  after = write s now target (length bytes) bytes Current
+  after = write s now own target (length bytes) bytes Current
 
   start_range : (at_place : Place) → place_of x.0.1 at_place ≡ Ok x.1.0 → at_place ≡ Current → x.1.0 ≤ most_file_bytes
   start_range Current h now_there = subst (λ (k : ℕ). x.1.0 ≤ k) (file_most x.0.1.kind source.file) (subst (λ (k : ℕ). k ≤ most_position x.0.1.kind) (same_value x.0.1.position x.1.0 h) (sound.open_files.files x.0.0 x.0.1 source.there).position)
@@ -191,12 +192,12 @@ module _ (s : Files) (now : TimeSpec) (target : ℤ) (place : Place) (sound : Is
 
   sent_sound : IsSound (sent x.0.0 place x.1.0 after).1
   sent_sound =
-      let w : IsSound after.1 = write_is_sound s now target (length bytes) bytes Current sound in
-      sent_case after.1 after.0 x.0.0 place x.1.0 w (λ n h. source_case after.1 x.0.0 place (x.1.0 + n) w (moved_range n (wrote s now (length bytes) bytes target Current n h)))
+      let w : IsSound after.1 = write_is_sound s now own target (length bytes) bytes Current sound in
+      sent_case after.1 after.0 x.0.0 place x.1.0 w (λ n h. source_case after.1 x.0.0 place (x.1.0 + n) w (moved_range n (wrote s now (length bytes) bytes own sound target Current n h)))
 
-from_case : (s : Files) (now : TimeSpec) (target : ℤ) (place : Place) (r : Result ((ℕ × OpenFile) × (ℕ × ℕ)) Errno) → IsSound s → HasSizes s.tree → ((x : (ℕ × OpenFile) × (ℕ × ℕ)) → r ≡ Ok x → IsSource s place x) → IsSound (send_from s now target place r).1
-from_case s now target place (Ok x) sound sizes source = sent_sound s now target place sound sizes x (source x refl)
-from_case s now target place (Err e) sound sizes source = sound
+from_case : (s : Files) (now : TimeSpec) (own : Credentials) (target : ℤ) (place : Place) (r : Result ((ℕ × OpenFile) × (ℕ × ℕ)) Errno) → IsSound s → HasSizes s.tree → ((x : (ℕ × OpenFile) × (ℕ × ℕ)) → r ≡ Ok x → IsSource s place x) → IsSound (send_from s now own target place r).1
+from_case s now own target place (Ok x) sound sizes source = sent_sound s now own target place sound sizes x (source x refl)
+from_case s now own target place (Err e) sound sizes source = sound
 
 pub send_file_is_sound : SendFileIsSound
-send_file_is_sound s now target source place count narrow sound sizes = from_case s now target place (send_source s target source place count narrow) sound sizes (source_found s target source place count narrow)
+send_file_is_sound s now own target source place count narrow sound sizes = from_case s now own target place (send_source s target source place count narrow) sound sizes (source_found s target source place count narrow)

@@ -7,6 +7,7 @@ use Rattle.kernel_values.specs.OpenFlags.{can_read, can_write, is_large}
 use Rattle.kernel_values.specs.Outcome.{◌>>=◌, ◌>>◌, refused_if}
 use Rattle.kernel_values.specs.declared.errno.Errno.{Errno}
 use Rattle.kernel_values.specs.declared.errno.Errno.TheVariants.{BadAddress, BadDescriptor, FileTooLarge, IllegalSeek, InvalidArgument, IsDirectory}
+use Rattle.kernel_values.specs.declared.identity.Credentials.{Credentials}
 use Rattle.kernel_values.specs.declared.items.OpenKind.{OpenKind}
 use Rattle.kernel_values.specs.declared.items.OpenKind.TheVariants.{File, Directory, PipeRead, PipeWrite, Stream, Datagram, RuleSocket}
 use Rattle.kernel_values.specs.declared.times.TimeSpec.{TimeSpec}
@@ -18,7 +19,7 @@ use Rattle.file_tree.specs.declared.state.FileTree.{FileTree}
 use Rattle.open_files.specs.Descriptors.{open_file, with_position}
 use Rattle.open_files.specs.Holding.{has_reader, has_writer}
 use Rattle.open_files.specs.Kinds.{is_of_directory, is_of_pipe, is_of_socket, lacks_position}
-use Rattle.open_files.specs.Transfers.{on_pipes, place_of, read_pipe, socket_refusal, write_pipe}
+use Rattle.open_files.specs.Transfers.{on_pipes, place_of, read_pipe, write_pipe, write_socket}
 use Rattle.open_files.specs.declared.state.OpenFile.{OpenFile}
 use Rattle.open_files.specs.declared.state.OpenFiles.{OpenFiles}
 use Rattle.open_files.specs.declared.state.Place.{Place}
@@ -29,10 +30,10 @@ use Rattle.map_lemmas.proofs.Steps.{both_answered, kept_by_settled, not_refused,
 use Rattle.open_laws.proofs.Waiting.{read_pipe_is_sound, write_pipe_is_sound}
 use Rattle.file_store.specs.Seeking.{in_range}
 use Rattle.file_store.specs.State.{with_open_files}
-use Rattle.file_store.specs.Transfers.{bytes_left, moved_on, read_file, size_limit, write_file, write_place}
+use Rattle.file_store.specs.Transfers.{bytes_left, moved_on, read_file, read_socket, size_limit, write_file, write_place}
 use Rattle.file_store.specs.declared.state.Files.{Files}
 use Rattle.sound_files.specs.Laws.{ReadIsSound, SeekIsSound, WriteIsSound}
-use Rattle.sound_files.specs.Sound.{Belongs, HasSizes, IsSound}
+use Rattle.sound_files.specs.Sound.{Belongs, HasInode, HasSizes, IsSound}
 use Rattle.sound_files.proofs.Changes.{written_same}
 use Rattle.sound_files.proofs.Opened.{positioned_is_sound}
 use Rattle.sound_files.proofs.Simple.{same_is_sound}
@@ -82,6 +83,24 @@ pub seek_is_sound : SeekIsSound
 seek_is_sound s fd offset whence sound = kept_by_settled IsSound s (open_file s.open_files fd >>= sought_of s offset whence sound) sound (sought_case s offset whence sound fd)
 
 -- ---- transfers of files
+kind_of_none : (t : FileTree) (i : ℕ) (kind : OpenKind) → HasInode t i kind → is_of_socket kind ≡ false
+kind_of_none t i File e = refl
+kind_of_none t i Directory e = refl
+kind_of_none t i PipeRead e = refl
+kind_of_none t i PipeWrite e = refl
+kind_of_none t i Stream e = absurd e
+kind_of_none t i Datagram e = absurd e
+kind_of_none t i RuleSocket e = absurd e
+
+-- no open file is a socket
+no_socket : (s : Files) (f : ℕ × OpenFile) → IsSound s → at s.open_files.files f.0 ≡ Some f.1 → is_of_socket f.1.kind ≡ false
+no_socket s f sound there = kind_of_none s.tree f.1.inode f.1.kind (sound.belong.held f.0 f.1 there)
+
+-- so what is done with sockets isn't done
+past_socket : {A : Type 0} (b : Bool) (x y z : A) → b ≡ false → cond b x y ≡ z → y ≡ z
+past_socket true x y z none h = absurd (let e : true ≡ false = none in cc)
+past_socket false x y z none h = h
+
 file_position : (kind : OpenKind) → is_of_directory kind ≡ false → is_of_socket kind ≡ false → is_of_pipe kind ≡ false → most_position kind ≡ most_file_bytes
 file_position File a b c = refl
 file_position Directory a b c = absurd (let e : true ≡ false = a in cc)
@@ -154,15 +173,16 @@ module _ (s : Files) (wanted room : ℕ) (sound : IsSound s) (sizes : HasSizes s
   kind_case f place x after false there directory socket pipe h = read_file_case f place x after there (file_position f.1.kind directory socket pipe) h
 
   abbrev read_of : Place → ℕ × OpenFile → Result (List ℕ × Files) Errno
-  read_of place f = refused_if (not (can_read f.1.flags)) BadDescriptor >> (refused_if (is_of_directory f.1.kind) IsDirectory >> (refused_if (is_of_socket f.1.kind) (socket_refusal place) >> cond (is_of_pipe f.1.kind) (with_open_files s (read_pipe s.open_files f.1.inode wanted room place)) (read_file s f wanted room place)))
+  read_of place f = refused_if (not (can_read f.1.flags)) BadDescriptor >> (refused_if (is_of_directory f.1.kind) IsDirectory >> cond (is_of_socket f.1.kind) (read_socket s f wanted room place) (cond (is_of_pipe f.1.kind) (with_open_files s (read_pipe s.open_files f.1.inode wanted room place)) (read_file s f wanted room place)))
 
   read_case : (fd : ℤ) (place : Place) (x : List ℕ) (after : Files) → (open_file s.open_files fd >>= read_of place) ≡ Ok (x, after) → IsSound after
   read_case fd place x after h =
       let f = both_answered (open_file s.open_files fd) (read_of place) (x, after) h in
       let reads = not_refused (not (can_read f.0.1.flags)) BadDescriptor _ (x, after) f.2 in
       let directory = not_refused (is_of_directory f.0.1.kind) IsDirectory _ (x, after) reads.1 in
-      let socket = not_refused (is_of_socket f.0.1.kind) (socket_refusal place) (cond (is_of_pipe f.0.1.kind) (with_open_files s (read_pipe s.open_files f.0.1.inode wanted room place)) (read_file s f.0 wanted room place)) (x, after) directory.1 in
-      kind_case f.0 place x after (is_of_pipe f.0.1.kind) (open_file_found s.open_files fd f.0 f.1).there directory.0 socket.0 refl socket.1
+      let there : at s.open_files.files f.0.0 ≡ Some f.0.1 = (open_file_found s.open_files fd f.0 f.1).there in
+      let socket = past_socket (is_of_socket f.0.1.kind) (read_socket s f.0 wanted room place) _ (Ok (x, after)) (no_socket s f.0 sound there) directory.1 in
+      kind_case f.0 place x after (is_of_pipe f.0.1.kind) there directory.0 (no_socket s f.0 sound there) refl socket
 
 pub read_is_sound : ReadIsSound
 read_is_sound s fd wanted room place sound sizes = kept_by_settled IsSound s (open_file s.open_files fd >>= read_of s wanted room sound sizes place) sound (read_case s wanted room sound sizes fd place)
@@ -185,8 +205,8 @@ module _ (s : Files) (now : TimeSpec) (wanted : ℕ) (piece : List ℕ) where
   abbrev write_at : ℕ × OpenFile → Place → ℕ → Result (ℕ × Files) Errno
   write_at f place start = write_as f place start (wanted == 0)
 
-  abbrev pub write_of : Place → ℕ × OpenFile → Result (ℕ × Files) Errno
-  write_of place f = refused_if (not (can_write f.1.flags)) BadDescriptor >> (refused_if (is_of_directory f.1.kind) IsDirectory >> (refused_if (is_of_socket f.1.kind) (socket_refusal place) >> cond (is_of_pipe f.1.kind) (with_open_files s (write_pipe s.open_files f.1.inode wanted piece place)) (write_file s now f wanted piece place)))
+  abbrev pub write_of : Credentials → Place → ℕ × OpenFile → Result (ℕ × Files) Errno
+  write_of own place f = refused_if (not (can_write f.1.flags)) BadDescriptor >> (refused_if (is_of_directory f.1.kind) IsDirectory >> cond (is_of_socket f.1.kind) (with_open_files s (write_socket s.open_files own f wanted piece place)) (cond (is_of_pipe f.1.kind) (with_open_files s (write_pipe s.open_files f.1.inode wanted piece place)) (write_file s now f wanted piece place)))
 
   -- what holds of a write that took nothing, of one to a pipe and of one to a file holds of each
   pub record Writes (P : ℕ → Files → Type 0) : Type 0 where
@@ -214,16 +234,17 @@ module _ (s : Files) (now : TimeSpec) (wanted : ℕ) (piece : List ℕ) where
         subst (P n) o.2 (writes.piped f place n o.0 o.1)
     written_kind f place n after false there directory socket pipe h = write_file_case f place n after there (file_position f.1.kind directory socket pipe) h
 
-    pub write_case : (fd : ℤ) (place : Place) (n : ℕ) (after : Files) → (open_file s.open_files fd >>= write_of place) ≡ Ok (n, after) → P n after
-    write_case fd place n after h =
-        let f = both_answered (open_file s.open_files fd) (write_of place) (n, after) h in
+    pub write_case : (own : Credentials) (sound : IsSound s) (fd : ℤ) (place : Place) (n : ℕ) (after : Files) → (open_file s.open_files fd >>= write_of own place) ≡ Ok (n, after) → P n after
+    write_case own sound fd place n after h =
+        let f = both_answered (open_file s.open_files fd) (write_of own place) (n, after) h in
         let able = not_refused (not (can_write f.0.1.flags)) BadDescriptor _ (n, after) f.2 in
         let directory = not_refused (is_of_directory f.0.1.kind) IsDirectory _ (n, after) able.1 in
-        let socket = not_refused (is_of_socket f.0.1.kind) (socket_refusal place) (cond (is_of_pipe f.0.1.kind) (with_open_files s (write_pipe s.open_files f.0.1.inode wanted piece place)) (write_file s now f.0 wanted piece place)) (n, after) directory.1 in
-        written_kind f.0 place n after (is_of_pipe f.0.1.kind) (open_file_found s.open_files fd f.0 f.1).there directory.0 socket.0 refl socket.1
+        let there : at s.open_files.files f.0.0 ≡ Some f.0.1 = (open_file_found s.open_files fd f.0 f.1).there in
+        let socket = past_socket (is_of_socket f.0.1.kind) (with_open_files s (write_socket s.open_files own f.0 wanted piece place)) _ (Ok (n, after)) (no_socket s f.0 sound there) directory.1 in
+        written_kind f.0 place n after (is_of_pipe f.0.1.kind) there directory.0 (no_socket s f.0 sound there) refl socket
 
 pub write_is_sound : WriteIsSound
-write_is_sound s now fd wanted piece place sound = kept_by_settled IsSound s (open_file s.open_files fd >>= write_of s now wanted piece place) sound (write_case s now wanted piece (λ n after. IsSound after) (record { nothing = sound; piped = piped; moved = moved }) fd place)
+write_is_sound s now own fd wanted piece place sound = kept_by_settled IsSound s (open_file s.open_files fd >>= write_of s now wanted piece own place) sound (write_case s now wanted piece (λ n after. IsSound after) (record { nothing = sound; piped = piped; moved = moved }) own sound fd place)
   where
     piped : (f : ℕ × OpenFile) (place : Place) (n : ℕ) (o : OpenFiles) → write_pipe s.open_files f.1.inode wanted piece place ≡ Ok (n, o) → IsSound (record s { open_files = o })
     piped f place n o h = record {

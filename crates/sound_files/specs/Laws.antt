@@ -1,5 +1,6 @@
--- The laws: each operation keeps what the tree and the open files owe each other, whatever it answers.
+-- The laws: each operation keeps what the tree and the open files owe each other, whatever it answers, where no socket was made.
 use Rattle.std.specs.Prelude.{◌≡◌, ◌≤◌, ◌^◌, ℕ, ℤ, Bool, List, [], Option}
+use Rattle.kernel_values.specs.declared.identity.Credentials.{Credentials}
 use Rattle.kernel_values.specs.declared.locks.Lock.{Lock}
 use Rattle.kernel_values.specs.declared.open_flags.OpenFlags.{OpenFlags}
 use Rattle.kernel_values.specs.declared.status.FileTimes.{FileTimes}
@@ -71,14 +72,14 @@ abbrev pub ReadIsSound : Type 0
 ReadIsSound = (s : Files) (fd : ℤ) (wanted room : ℕ) (place : Place) → IsSound s → HasSizes s.tree → IsSound (read s fd wanted room place).1
 
 abbrev pub WriteIsSound : Type 0
-WriteIsSound = (s : Files) (now : TimeSpec) (fd : ℤ) (wanted : ℕ) (piece : List ℕ) (place : Place) → IsSound s → IsSound (write s now fd wanted piece place).1
+WriteIsSound = (s : Files) (now : TimeSpec) (own : Credentials) (fd : ℤ) (wanted : ℕ) (piece : List ℕ) (place : Place) → IsSound s → IsSound (write s now own fd wanted piece place).1
 
 abbrev pub SendFileIsSound : Type 0
 SendFileIsSound =
-    (s : Files) (now : TimeSpec) (target source : ℤ) (place : Place) (count : ℕ) (narrow : Bool)
+    (s : Files) (now : TimeSpec) (own : Credentials) (target source : ℤ) (place : Place) (count : ℕ) (narrow : Bool)
     → IsSound s
     → HasSizes s.tree
-    → IsSound (send_file s now target source place count narrow).1
+    → IsSound (send_file s now own target source place count narrow).1
 
 abbrev pub TruncateIsSound : Type 0
 TruncateIsSound = (s : Files) (now : TimeSpec) (path : List ℕ) (wanted : ℤ) → IsSound s → IsSound (truncate s now path wanted).1

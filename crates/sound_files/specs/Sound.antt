@@ -1,4 +1,4 @@
--- What the tree of files and the open files owe each other in every state.
+-- What the tree of files and the open files owe each other in every state in which no socket was made.
 use Rattle.std.specs.Prelude.{◌≡◌, ◌<◌, ◌≤◌, ◌||◌, ℕ, true, false, List, Some, None, length}
 use Rattle.kernel_values.specs.Bounds.{most_file_bytes}
 use Rattle.kernel_values.specs.declared.items.OpenKind.{OpenKind}
@@ -33,7 +33,7 @@ pub record IsApart (t : FileTree) (i : ℕ) : Type 0 where
   pub image : at t.numbers.image i ≡ None
   pub nodeless : is_there t.nodes i ≡ false
 
--- what the inode of an open file is in the tree; no call makes a socket yet
+-- what the inode of an open file is in the tree; none is a socket, where no socket was made
 abbrev pub HasInode : FileTree → ℕ → OpenKind → Type 0
 HasInode t i File = IsFile t i
 HasInode t i Directory = IsDirectory t i

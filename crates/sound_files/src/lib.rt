@@ -1,6 +1,6 @@
-//! Laws of files: what the tree of files and the open files owe each other in every state, and that each operation keeps it,
-//! whatever it answers. A function here has no code: its contract is the law, proved of every state that meets the premises that
-//! the law names.
+//! Laws of files: what the tree of files and the open files owe each other in every state in which no socket was made, and that
+//! each operation on files and pipes keeps it, whatever it answers. A state in which they do is called sound here. A function here
+//! has no code: its contract is the law, proved of every state that meets the premises that the law names.
 #![tactic(auto)]
 
 ghost use Rattle.sound_files.specs.Laws.{AllocateIsSound, ChangeDirectoryIsSound, CloseAllIsSound, CloseIsSound, CopyIsSound, DuplicateToIsSound, FreshFilesAreSound, FreshTreeIsWhole, ImageBytesIsSound, ImageDirectoryIsSound, ImageFileIsSound, ImageLockIsSound, MakeDirectoryIsSound, OpenIsSound, PipeIsSound, ReadIsSound, RemoveDirectoryIsSound, RemoveIsSound, RenameIsSound, SeekIsSound, SendFileIsSound, SetFdFlagsIsSound, SetLockIsSound, SetOpenFlagsIsSound, SetTimesIsSound, TruncateIsSound, TruncateOpenIsSound, UnlinkIsSound, WriteIsSound};

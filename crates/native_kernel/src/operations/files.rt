@@ -67,9 +67,9 @@ impl Kernel {
         self.files.close(fd)
     }
 
-    /// Reads bytes, at most `wanted` and at most `room`. EBADF, also where it isn't open for reading; EISDIR; of a pipe
-    /// ESPIPE for an offset, and EAGAIN where no bytes wait and an end is open for writing; EINVAL for an offset below 0;
-    /// EFAULT where bytes could move and there is no room. Memory may be wanting only where bytes move.
+    /// Reads bytes, at most `wanted` and at most `room`. EBADF, also where it isn't open for reading; EISDIR; of a pipe or socket
+    /// ESPIPE for an offset, and EAGAIN where no bytes wait and more may come; EINVAL for a stream that isn't connected, and for an offset
+    /// below 0; EFAULT where bytes could move and there is no room. Memory may be wanting only where bytes move.
     #[tactic(auto, unfolding(crate::specs::Operations::read))]
     pub fn read(
         &mut self,
@@ -84,13 +84,12 @@ impl Kernel {
         ensures space { IfOk result (λ v. length v ≤ room) }
         ensures moves { OnOutOfMemory result (moves_bytes (read self.old fd wanted room place).0 ≡ true) }
     {
-        let bytes = self.files.read(alloc, fd, wanted, room, place)?;
-        Ok(ByteList::from_vec(bytes))
+        self.files.read(alloc, fd, wanted, room, place)
     }
 
-    /// Writes bytes: of the `wanted` ones as many as fit below the file's limit, or into the pipe, and as `piece` has.
-    /// EBADF, also where it isn't open for writing; EISDIR; of a pipe ESPIPE for an offset, EPIPE where no end is open for
-    /// reading, with SIGPIPE, and EAGAIN where they don't fit; EINVAL for an offset below 0; EFBIG; EFAULT where bytes could move and
+    /// Writes bytes: of the `wanted` ones as many as fit below the file's limit, or into the pipe or stream, and as `piece` has.
+    /// EBADF, also where it isn't open for writing; EISDIR; of a pipe or socket ESPIPE for an offset, EPIPE where nothing will read them,
+    /// with SIGPIPE but for datagrams, and EAGAIN where they don't fit; ENOTCONN, ECONNREFUSED and EMSGSIZE of sockets; EINVAL for an offset below 0; EFBIG; EFAULT where bytes could move and
     /// `piece` is empty.
     #[tactic(auto, unfolding(crate::specs::Operations::write))]
     pub fn write(
@@ -105,8 +104,9 @@ impl Kernel {
         ensures count { IfOk result (λ n. n ≤ wanted) }
     {
         let now = TimeSpec::of_nanoseconds(self.clocks.real());
-        let answer = self.files.write(alloc, now, fd, wanted, piece, place);
-        self.signal_broken_pipe(&answer);
+        let own = self.credentials();
+        let answer = self.files.write(alloc, now, own, fd, wanted, piece, place);
+        self.signal_broken_pipe(fd, &answer);
         answer
     }
 

@@ -17,7 +17,7 @@ impl Kernel {
     ///
     /// EBADF where the target isn't open for writing, and then where the source isn't open for reading; EINVAL for an offset below 0,
     /// for a source that is no file, and for a target that is a directory or appends; EOVERFLOW for a narrow offset of 2^31 - 1 and
-    /// above; what refuses the write, of no byte too. EPIPE comes with SIGPIPE.
+    /// above; what refuses the write, of no byte too. EPIPE comes with SIGPIPE, but for datagrams.
     #[tactic(auto, unfolding(crate::specs::Operations::send_file))]
     pub fn send_file(
         &mut self,
@@ -33,10 +33,11 @@ impl Kernel {
         ensures end { IfOk result (λ n. EndsInFile place n) }
     {
         let now = TimeSpec::of_nanoseconds(self.clocks.real());
+        let own = self.credentials();
         let answer = self
             .files
-            .send_file(alloc, now, target, source, place, count, narrow);
-        self.signal_broken_pipe(&answer);
+            .send_file(alloc, now, own, target, source, place, count, narrow);
+        self.signal_broken_pipe(target, &answer);
         answer
     }
 }

@@ -3,7 +3,7 @@
 ghost use Rattle.std.specs.Prelude.{◌≡◌, ◌≤◌, ◌<◌, false, length, IfNone, IfSome, None};
 ghost use Rattle.kernel_values.specs.Outcome.{GivesAlways};
 ghost use Rattle.signal_clock.specs.Taking.{has_deliverable};
-ghost use Rattle.native_kernel.specs.Operations.{alt_stack, change_action, change_mask, kill, end_of, next_signal, pending, posted, queue, pipe_signalled_by, with_mask};
+ghost use Rattle.native_kernel.specs.Operations.{alt_stack, change_action, change_mask, kill, end_of, next_signal, pending, posted, queue, signalled_by, with_mask};
 
 use crate::state::Kernel;
 use kernel_values::{Action, AltStack, Answer, Errno, KernelFault, SigInfo, SignalSet};
@@ -23,10 +23,13 @@ impl Kernel {
         let _posted = self.signals.post(info);
     }
 
-    /// Posts SIGPIPE, as by the process itself, where an answer is EPIPE.
-    pub(crate) fn signal_broken_pipe(&mut self, answer: &Answer<u64>)
-        ensures { self.new ≡ pipe_signalled_by answer.now self.old }
+    /// Posts SIGPIPE, as by the process itself, where the answer to a write to a descriptor is EPIPE, unless that sends datagrams.
+    pub(crate) fn signal_broken_pipe(&mut self, fd: i64, answer: &Answer<u64>)
+        ensures { self.new ≡ signalled_by fd answer.now self.old }
     {
+        if self.files.open_files.sends_datagrams(fd) {
+            return;
+        }
         if let Err(KernelFault::Errno(Errno::BrokenPipe)) = answer {
             let info = own_info(&self.credentials(), SIGPIPE);
             self.post(&info);
