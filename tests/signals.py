@@ -47,6 +47,7 @@ class Process:
         self.mask, self.waiting, self.stack = 0, [], (0, 0)
         self.real = self.monotonic = 0
         self.timer = self.ended = None
+        self.numbers, self.peak = NUMBERS, 0
 
     # Memory
 
@@ -58,8 +59,10 @@ class Process:
         return bytes(self.pages[place >> 12][place & 4095] for place in range(at, at + size))
 
     def put(self, at, data):
-        for place, byte in enumerate(data, at):
-            self.pages[place >> 12][place & 4095] = byte
+        while data:
+            part, data = data[: 4096 - at % 4096], data[4096 - at % 4096 :]
+            self.pages[at >> 12][at & 4095 : (at & 4095) + len(part)] = part
+            at += len(part)
 
     def fetch(self, at, form):
         size = struct.calcsize(form)
@@ -350,7 +353,7 @@ class Process:
         self.pass_time(nanoseconds)
 
     def line_poke(self, at, data):
-        self.script.append(f"poke {at:x} {data.hex()}")
+        self.script.append(f"poke {at:x} {data.hex() or '-'}")
         self.put(at, data)
 
     def line_call(self, name, *words, registers=()):
@@ -360,7 +363,7 @@ class Process:
         values[first : first + len(words)] = map(word, words)
         for place, value in dict(registers).items():
             values[place] = word(value)
-        values[0 if self.abi == "ia32" else 7] = NUMBERS[name]
+        values[0 if self.abi == "ia32" else 7] = self.numbers[name]
         self.script.append("call " + " ".join(f"{value:x}" for value in values))
         self.calls += 1
         if self.ended:
@@ -381,8 +384,9 @@ class Process:
 
     def changes(self, before):
         for number in sorted(self.pages):
-            old, new, place = before[number], self.pages[number], 0
-            while old != new and place < 4096:
+            old, new = before[number], self.pages[number]
+            place = 4096 if old == new else 0
+            while place < 4096:
                 start = place
                 while place < 4096 and old[place] != new[place]:
                     place += 1
@@ -394,7 +398,7 @@ class Process:
         yield from ("state", f"clock {self.real:x} {self.monotonic:x}")
         if self.ended:
             yield f"ended signal {self.ended[1]:x}"
-        yield "peak 0"
+        yield f"peak {self.peak:x}"
         if self.timer:
             yield "timer %x %x" % self.timer
         if self.mask:
@@ -406,6 +410,10 @@ class Process:
                 yield f"action {signal:x} " + " ".join(f"{part:x}" for part in action)
         for info in self.waiting:
             yield "pending " + " ".join(f"{word(part):x}" for part in info)
+        yield from self.items()
+
+    def items(self):
+        """The lines of the state behind those of signals."""
         yield "node 2 d 0 41ed 0 0 0.0 0.0 0.0"
 
     def line_show(self):
